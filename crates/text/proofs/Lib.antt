@@ -1,0 +1,6 @@
+mod Decimals
+mod Cut
+mod Words
+mod LineEnds
+mod LinkRows
+mod Unique
