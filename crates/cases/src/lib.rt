@@ -1,0 +1,5 @@
+// Worked cases of the intake, run as tests.
+#[cfg(test)]
+mod nets;
+#[cfg(test)]
+mod texts;
