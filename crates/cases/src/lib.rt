@@ -1,4 +1,6 @@
 // Worked cases, run as tests.
+#![tactic(auto)]
+
 #[cfg(test)]
 mod nets;
 #[cfg(test)]

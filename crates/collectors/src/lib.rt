@@ -1,4 +1,6 @@
 // Exchanges, and what collects them.
+#![tactic(auto)]
+
 mod collector;
 mod either;
 mod exchange;

@@ -1,4 +1,6 @@
 // What the programs share: a site read from standard input, and a refusal printed.
+#![tactic(auto)]
+
 ghost use Rattle.std.specs.Prelude.{◌≡◌, false, is_ok, IfOk};
 ghost use Rattle.net.specs.Settings.{Setting, Radial};
 ghost use Rattle.survey.specs.Answers.{net_of};

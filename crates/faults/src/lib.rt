@@ -1,4 +1,6 @@
 // Refusals: one enum for each layer, and the line that a program prints.
+#![tactic(auto)]
+
 ghost use Rattle.std.specs.Prelude.{◌≡◌, Some};
 ghost use Rattle.faults.specs.declared.Fault.TheVariants.{Text, Net, Survey, Collector, Board, Stream, Replay, Memory};
 ghost use Rattle.faults.specs.declared.ReplayFault.TheVariants.{Unread};

@@ -1,4 +1,6 @@
 // The bars that a setting feeds from the infeed, found by a flood over its closed links.
+#![tactic(auto)]
+
 mod marks;
 mod sides;
 

@@ -1,4 +1,6 @@
 // The intake of a site: its text read, and the net surveyed.
+#![tactic(auto)]
+
 ghost use Rattle.std.specs.Prelude.{vec_capacity};
 ghost use Rattle.intake.specs.Taken.{Takes};
 

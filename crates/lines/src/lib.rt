@@ -1,4 +1,6 @@
 // The text of a listing, one line a setting.
+#![tactic(auto)]
+
 mod sheet;
 mod text;
 

@@ -1,4 +1,6 @@
 // Reads a net from standard input and says what was read and found.
+#![tactic(auto)]
+
 use anyhow::anyhow;
 use faults::Fault;
 use intake::intake;

@@ -1,4 +1,6 @@
 // Reads a net from standard input and prints its radial settings, one line each, and their number.
+#![tactic(auto)]
+
 use anyhow::anyhow;
 use console::read_site;
 use faults::CollectorFault;

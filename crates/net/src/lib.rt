@@ -1,4 +1,6 @@
 // Nets: what a source of nets answers, two sources, and the limits that a net must keep.
+#![tactic(auto)]
+
 mod limits;
 mod source;
 mod sources;

@@ -15,7 +15,7 @@ pub const INFEED: u32 = 1;
 
 // Whether a source's net is within the limits; if not, the first question that is answered no.
 pub fn check<S: NetSource>(source: &S) -> Result<(), NetFault>
-    ensures { MatchResult result (λ _. WithinLimits (meaning source.now)) (λ f. FirstNo (meaning source.now) f) }
+    ensures { MatchResult result (λ _. WithinLimits (S.meaning source.now)) (λ f. FirstNo (S.meaning source.now) f) }
 {
     let bars = source.bars();
     if bars < 1 || bars > MOST_BARS {
@@ -33,8 +33,8 @@ pub fn check<S: NetSource>(source: &S) -> Result<(), NetFault>
 
 // The two questions that are asked of a link.
 fn check_link<S: NetSource>(source: &S, bars: u32, link: u64) -> Result<(), NetFault>
-    requires { bars ≡ (meaning source.now).bars }
-    ensures { MatchResult result (λ _. EndsAreBars (meaning source.now) link × EndsDiffer (meaning source.now) link) (λ f. FirstLinkNo (meaning source.now) link f) }
+    requires { bars ≡ (S.meaning source.now).bars }
+    ensures { MatchResult result (λ _. EndsAreBars (S.meaning source.now) link × EndsDiffer (S.meaning source.now) link) (λ f. FirstLinkNo (S.meaning source.now) link f) }
 {
     let Some((a, b)) = source.ends(link) else {
         return Ok(());

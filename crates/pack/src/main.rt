@@ -1,4 +1,6 @@
 // Reads a net from standard input and writes the stream of its radial settings to standard output.
+#![tactic(auto)]
+
 use console::read_site;
 use roundtrip::Packer;
 use std::io::Write;

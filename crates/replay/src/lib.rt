@@ -1,4 +1,6 @@
 // The replay of a stream on a board.
+#![tactic(auto)]
+
 mod exchanges;
 mod pending;
 mod player;

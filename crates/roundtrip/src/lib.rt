@@ -1,4 +1,6 @@
 // A listing passed on is a listing read back.
+#![tactic(auto)]
+
 mod head;
 mod packer;
 mod stage;

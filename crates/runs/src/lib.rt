@@ -1,4 +1,6 @@
 // Any list of calls on a new walk of any net.
+#![tactic(auto)]
+
 mod calls;
 mod driver;
 

@@ -1,4 +1,6 @@
 // The stream: its records, the writer and the reader.
+#![tactic(auto)]
+
 mod bodies;
 mod fronts;
 mod reader;

@@ -1,4 +1,6 @@
 // The text form of a net.
+#![tactic(auto)]
+
 ghost use Rattle.std.specs.Prelude.{◌≡◌};
 
 mod lines;

@@ -1,1 +1,2 @@
 // The theory of the listing.
+#![tactic(auto)]

@@ -1,4 +1,6 @@
 // The walk through all radial settings of a net.
+#![tactic(auto)]
+
 mod answers;
 mod cursor;
 mod state;

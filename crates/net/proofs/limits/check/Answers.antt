@@ -8,7 +8,7 @@ loop-link-init g c = none_asked (g.S.NetSource.meaning c.args.source.now)
 
 pub loop-link-preserved : goal.loop-link-preserved
 loop-link-preserved g c =
-    one_more (g.S.NetSource.meaning c.args.source.now) c.loop-link.link c.loop-link.invariant c.in-ok-check-link.ensures
+    one_more (g.S.NetSource.meaning c.args.source.now) c.loop-link.link c.loop-link.invariant c.in_ok-check_link.ensures
 
 pub returns-in-err-check-link : goal.returns-in-err-check-link
 returns-in-err-check-link g c =

@@ -16,4 +16,4 @@ returns-then-number-lt1 c = sym (elim c.then-number-lt1.branch [
     zeroth (suc i) h = absurd (omega arith)
 
 pub returns : goal.returns
-returns c = c.pair-at.ensures ∙ sym (nth_pairs c.args.row.now c.args.number (omega arith) (omega arith))
+returns c = c.pair_at.ensures ∙ sym (nth_pairs c.args.row.now c.args.number (omega arith) (omega arith))
