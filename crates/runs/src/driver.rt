@@ -17,7 +17,7 @@ use walk::{Advance, Look, Walk};
 
 // Surveys the net of a source, makes the calls on a new walk, one after another, and leaves in each what it was answered.
 pub fn run<S: NetSource, C: Collector>(source: &S, calls: &mut [Call<C>]) -> Result<Surveyed, Fault>
-    ensures { Runs sum spare rule (meaning source.now) result calls.old calls.new }
+    ensures { Runs sum spare rule (S.meaning source.now) result calls.old calls.new }
 {
     let site = survey(source)?;
     make_all(&site, calls);

@@ -15,7 +15,7 @@ use net::{INFEED, NetSource};
 
 // Surveys the net of any source; or says which question was the first to be answered no.
 pub fn survey<S: NetSource>(source: &S) -> Result<Surveyed, Fault>
-    ensures { Surveys (meaning source.now) result }
+    ensures { Surveys (S.meaning source.now) result }
 {
     let net = NetCopy::copy(source)?;
     survey_copy(net)

@@ -5,8 +5,8 @@ use Rattle.board.proofs.Bytes.{read_more}
 use Rattle.board.proofs.rows.read_row.Goals as goal
 
 pub loop-at-preserved : goal.loop-at-preserved
-loop-at-preserved c = read_more c.args.row.now c.loop-at.closed.marked c.put.new.self.marked c.loop-at.at c.means-closed.result c.loop-at-test.true
-    (omega (arith, c.requires, c.loop-at.closed.long)) c.loop-at.invariant c.means-closed.ensures c.put.ensures
+loop-at-preserved c = read_more c.args.row.now c.loop-at.closed.marked c.put.new.self.marked c.loop-at.at c.means_closed.result c.loop-at-test.true
+    (omega (arith, c.requires, c.loop-at.closed.long)) c.loop-at.invariant c.means_closed.ensures c.put.ensures
 
 pub returns : goal.returns
 returns c =

@@ -4,21 +4,21 @@ use Rattle.survey.specs.Answers.{net_of}
 use Rattle.flood.specs.Marked.{row_in}
 use Rattle.board.proofs.Held.{row_length}
 use Rattle.board.proofs.settings.are_in_service.Goals as goal
-use Rattle.board.proofs.settings.are_in_service.Goals.{else-has-closed-via-then-has-closed+else-not-is-in-service, else-has-closed-via-else-has-closed}
+use Rattle.board.proofs.settings.are_in_service.Goals.{else-has_closed-via-then-has-closed+else-not-is_in_service, else-has_closed-via-else-has_closed}
 
 pub loop-link-init : goal.loop-link-init
 loop-link-init c k h d = absurd (omega (arith, (closed_range _ k d).0))
 
 pub loop-link-preserved : goal.loop-link-preserved
-loop-link-preserved c = below_more _ _ c.loop-link.invariant (elim c.else-has-closed.branch [
-  | else-has-closed-via-then-has-closed+else-not-is-in-service w ↦ λ _. w.if-not-is-in-service.ensures.0 refl
-  | else-has-closed-via-else-has-closed w ↦ λ d. absurd (not_both d (sym w.if-has-closed.ensures))
+loop-link-preserved c = below_more _ _ c.loop-link.invariant (elim c.else-has_closed.branch [
+  | else-has_closed-via-then-has-closed+else-not-is_in_service w ↦ λ _. w.if-not-is_in_service.ensures.0 refl
+  | else-has_closed-via-else-has_closed w ↦ λ d. absurd (not_both d (sym w.if-has_closed.ensures))
 ])
 
-pub returns-then-not-is-in-service : goal.returns-then-not-is-in-service
-returns-then-not-is-in-service c = (
+pub returns-then-not-is_in_service : goal.returns-then-not-is_in_service
+returns-then-not-is_in_service c = (
   λ e. absurd (not_both e refl),
-  λ f. c.if-not-is-in-service.ensures.1 (f c.loop-link.link (sym c.if-has-closed.ensures)),
+  λ f. c.if-not-is_in_service.ensures.1 (f c.loop-link.link (sym c.if-has_closed.ensures)),
 )
 
 pub returns : goal.returns

@@ -6,7 +6,7 @@ use Rattle.survey.specs.Answers.{net_of}
 use Rattle.flood.specs.Marked.{row_in}
 use Rattle.board.proofs.Held.{row_length, count_more, count_few}
 use Rattle.board.proofs.settings.count_closed.Goals as goal
-use Rattle.board.proofs.settings.count_closed.Goals.{then-has-closed, else-has-closed}
+use Rattle.board.proofs.settings.count_closed.Goals.{then-has_closed, else-has_closed}
 
 pub overflow-add-count : goal.overflow-add-count
 overflow-add-count c =
@@ -17,9 +17,9 @@ pub loop-done-preserved : goal.loop-done-preserved
 loop-done-preserved c =
     let T = row_in (net_of c.args.site.now) c.args.closed.now in
     let h : c.loop-done.done < length T = omega (arith, row_length c.args.site.now c.args.closed.now, c.links-done-end.ensures, c.loop-done-test.true) in
-    elim c.if-has-closed.branch [
-      | then-has-closed w ↦ omega (arith, w.count-is, c.loop-done.invariant, count_more T c.loop-done.done true h w.if-has-closed.ensures)
-      | else-has-closed w ↦ omega (arith, w.count-is, c.loop-done.invariant, count_more T c.loop-done.done false h w.if-has-closed.ensures)
+    elim c.if-has_closed.branch [
+      | then-has_closed w ↦ omega (arith, w.count-is, c.loop-done.invariant, count_more T c.loop-done.done true h w.if-has_closed.ensures)
+      | else-has_closed w ↦ omega (arith, w.count-is, c.loop-done.invariant, count_more T c.loop-done.done false h w.if-has_closed.ensures)
     ]
 
 pub returns : goal.returns

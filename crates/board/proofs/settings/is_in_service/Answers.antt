@@ -5,4 +5,4 @@ use Rattle.board.proofs.Held.{some_tells}
 use Rattle.board.proofs.settings.is_in_service.Goals as goal
 
 pub returns : goal.returns
-returns c = Decides-at c.is-some.result (is_some c.ends.result) c.is-some.ensures (some_tells (net_of c.args.site.now) c.args.link c.ends.result c.ends.ensures)
+returns c = Decides-at c.is_some.result (is_some c.ends.result) c.is_some.ensures (some_tells (net_of c.args.site.now) c.args.link c.ends.result c.ends.ensures)

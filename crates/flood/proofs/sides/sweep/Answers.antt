@@ -12,11 +12,11 @@ use Rattle.flood.proofs.sides.sweep.Goals as goal
 pub loop-done-preserved : goal.loop-done-preserved
 loop-done-preserved c =
     let net = net_of c.args.site.now in (
-      c.sweep-link-anew.ensures.fed
+      c.sweep_link-anew.ensures.fed
           ∙ ap (touch (ends_of net (c.loop-done.done + 1)) (nth c.args.closed.now.marked (c.loop-done.done + 1) _)) c.loop-done.invariant.0
           ∙ sym (sweep_on net c.args.closed.now.marked c.args.fed.now.marked c.loop-done.done (omega (arith, c.loop-done-test.true, c.links-done-end.ensures))
           (omega (arith, (surveyed_fits c.args.site.now).few_links, c.args.closed.now.long))),
-      λ e. let (p, q) = or_parts c.loop-done.anew c.sweep-link-anew.result e in c.sweep-link-anew.ensures.still q ∙ c.loop-done.invariant.1 p,
+      λ e. let (p, q) = or_parts c.loop-done.anew c.sweep_link-anew.result e in c.sweep_link-anew.ensures.still q ∙ c.loop-done.invariant.1 p,
     )
 
 pub returns : goal.returns

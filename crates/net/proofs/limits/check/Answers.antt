@@ -10,10 +10,10 @@ pub loop-link-preserved : goal.loop-link-preserved
 loop-link-preserved g c =
     one_more (g.S.NetSource.meaning c.args.source.now) c.loop-link.link c.loop-link.invariant c.in_ok-check_link.ensures
 
-pub returns-in-err-check-link : goal.returns-in-err-check-link
-returns-in-err-check-link g c =
-    let p = err_from_is_err_and c.from-residual.result c.from-residual.ensures.1 in
-    rw (p.1, p.2) (first_no (g.S.NetSource.meaning c.args.source.now) c.loop-link.link _ (omega arith) (omega arith) c.loop-link.invariant c.in-err-check-link.ensures)
+pub returns-in_err-check_link : goal.returns-in_err-check_link
+returns-in_err-check_link g c =
+    let p = err_from_is_err_and c.from_residual.result c.from_residual.ensures.1 in
+    rw (p.1, p.2) (first_no (g.S.NetSource.meaning c.args.source.now) c.loop-link.link _ (omega arith) (omega arith) c.loop-link.invariant c.in_err-check_link.ensures)
 
 pub returns : goal.returns
 returns g c =

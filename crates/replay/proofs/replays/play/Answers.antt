@@ -12,15 +12,15 @@ loop-reader-init c = reached_none c.args.site.now c.args.bytes.now c.new-reader.
 
 pub loop-reader-preserved : goal.loop-reader-preserved
 loop-reader-preserved c =
-    reached_more c.args.site.now c.args.bytes.now c.loop-reader.player c.loop-reader.reader c.loop-reader.invariant c.in-ok-player.player c.step.new.reader
-    c.in-ok-player.ensures
+    reached_more c.args.site.now c.args.bytes.now c.loop-reader.player c.loop-reader.reader c.loop-reader.invariant c.in_ok-player.player c.step.new.reader
+    c.in_ok-player.ensures
 
-pub returns-in-err-player : goal.returns-in-err-player
-returns-in-err-player c =
-    let p = err_from_is_err_and c.from-residual.result c.from-residual.ensures.1 in
+pub returns-in_err-player : goal.returns-in_err-player
+returns-in_err-player c =
+    let p = err_from_is_err_and c.from_residual.result c.from_residual.ensures.1 in
     record {
-      answer = rw (p.1, p.2) (reached_stops c.args.site.now c.args.bytes.now c.loop-reader.player c.loop-reader.reader c.loop-reader.invariant c.in-err-player.field-0.0
-          c.in-err-player.ensures);
+      answer = rw (p.1, p.2) (reached_stops c.args.site.now c.args.bytes.now c.loop-reader.player c.loop-reader.reader c.loop-reader.invariant c.in_err-player.field-0.0
+          c.in_err-player.ensures);
       single = reader_once c.args.site.now c.args.bytes.now c.new-reader.result c.new-reader.ensures.rest;
     }
 

@@ -6,22 +6,22 @@ use Rattle.replay.specs.Players.{place_of, site_of_player}
 use Rattle.replay.proofs.Stepped.{unread_stops, none_stops, some_steps, end_stops}
 use Rattle.replay.proofs.replays.step.Goals as goal
 
-pub returns-then-has-ended : goal.returns-then-has-ended
-returns-then-has-ended c =
+pub returns-then-has_ended : goal.returns-then-has_ended
+returns-then-has_ended c =
     let p = c.args.player in
-    end_stops (net_of (site_of_player p)) c.args.reader.now.place c.place.result (place_of p) (rest_of c.args.reader.now) c.if-has-ended.ensures c.requires.left c.place.ensures
+    end_stops (net_of (site_of_player p)) c.args.reader.now.place c.place.result (place_of p) (rest_of c.args.reader.now) c.if-has_ended.ensures c.requires.left c.place.ensures
 
-pub returns-in-err-place : goal.returns-in-err-place
-returns-in-err-place c =
-    let p = err_from_is_err_and c.from-residual.result c.from-residual.ensures.1 in
-    rw (p.1, p.2) (unread_stops c.args.player c.args.reader.now c.next.new.self c.if-has-ended.ensures c.in-err-place.field-0.0 c.in-err-place.ensures)
+pub returns-in_err-place : goal.returns-in_err-place
+returns-in_err-place c =
+    let p = err_from_is_err_and c.from_residual.result c.from_residual.ensures.1 in
+    rw (p.1, p.2) (unread_stops c.args.player c.args.reader.now c.next.new.self c.if-has_ended.ensures c.in_err-place.field-0.0 c.in_err-place.ensures)
 
-pub returns-in-default : goal.returns-in-default
-returns-in-default c =
-    none_stops c.args.player c.args.reader.now c.next.new.self c.if-has-ended.ensures c.in-ok-place.field-0 c.place-in-default.result c.in-default.is c.place-in-default.ensures
-    c.in-ok-place.ensures
+pub returns-in_default : goal.returns-in_default
+returns-in_default c =
+    none_stops c.args.player c.args.reader.now c.next.new.self c.if-has_ended.ensures c.in_ok-place.field-0 c.place-in_default.result c.in_default.is c.place-in_default.ensures
+    c.in_ok-place.ensures
 
 pub returns : goal.returns
 returns c =
-    some_steps c.args.player c.args.reader.now c.next.new.self c.if-has-ended.ensures c.in-ok-place.field-0 c.in-Some.place c.in-Some.body (record_of c.decode.result)
-    c.in-Some.is c.in-ok-place.ensures c.decode.ensures.said c.take.result c.take.ensures
+    some_steps c.args.player c.args.reader.now c.next.new.self c.if-has_ended.ensures c.in_ok-place.field-0 c.in-Some.place c.in-Some.body (record_of c.decode.result)
+    c.in-Some.is c.in_ok-place.ensures c.decode.ensures.said c.take.result c.take.ensures

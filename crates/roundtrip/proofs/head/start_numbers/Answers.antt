@@ -9,11 +9,11 @@ use Rattle.roundtrip.proofs.head.start_numbers.Goals as goal
 pub loop-rank-preserved : goal.loop-rank-preserved
 loop-rank-preserved c =
     let site = c.args.site.now in (
-      length-set c.loop-rank.numbers (c.loop-rank.rank - 1) c.start-number.result ∙ c.loop-rank.invariant.0,
-      table_next (net_of site) c.loop-rank.numbers c.loop-rank.rank c.start-number.result c.loop-rank.auto.rank
+      length-set c.loop-rank.numbers (c.loop-rank.rank - 1) c.start_number.result ∙ c.loop-rank.invariant.0,
+      table_next (net_of site) c.loop-rank.numbers c.loop-rank.rank c.start_number.result c.loop-rank.auto.rank
           (omega (arith, c.loop-rank-test.true, c.bars-rank-end.ensures, surveyed_starts site))
           (omega (arith, c.loop-rank.invariant.0, c.loop-rank-test.true, c.bars-rank-end.ensures, (surveyed_fits site).few_bars))
-          c.loop-rank.invariant.1 c.start-number.ensures,
+          c.loop-rank.invariant.1 c.start_number.ensures,
     )
 
 pub returns : goal.returns

@@ -8,9 +8,9 @@ pub returns-in-Advance : goal.returns-in-Advance
 returns-in-Advance g c =
     let w = c.args.walk.now in
     let K = g.C.Collector in
-    let (on, answered) = advance_answered K.sum K.spare K.rule (net_of_walk w) (handed_by w) (handed_within w) c.args.call.now (handed_by c.hand-on.new.walk)
-    c.in-Advance.allowance c.in-Advance.collector c.hand-on.new.collector c.in-Advance.answer c.hand-on.result c.in-Advance.is c.hand-on.ensures.advanced in
-    record { net = c.hand-on.ensures.net; on = on; answered = answered }
+    let (on, answered) = advance_answered K.sum K.spare K.rule (net_of_walk w) (handed_by w) (handed_within w) c.args.call.now (handed_by c.hand_on.new.walk)
+    c.in-Advance.allowance c.in-Advance.collector c.hand_on.new.collector c.in-Advance.answer c.hand_on.result c.in-Advance.is c.hand_on.ensures.advanced in
+    record { net = c.hand_on.ensures.net; on = on; answered = answered }
 
 pub returns-in-Look : goal.returns-in-Look
 returns-in-Look g c =

@@ -9,5 +9,5 @@ returns c =
     let w = c.args.walk.now in
     let row = c.args.row.now in
     subst (Presents (net_of_walk w) (handed_by w) (vec_items row) c.present.result)
-    (sym (with_items_is row c.present.new.row (omega (arith, c.present.auto.row, c.as-mut-slice.ensures.len))))
-    (subst (λ xs. Presents (net_of_walk w) (handed_by w) xs c.present.result c.present.new.row) c.as-mut-slice.ensures.value c.present.ensures)
+    (sym (with_items_is row c.present.new.row (omega (arith, c.present.auto.row, c.as_mut_slice.ensures.len))))
+    (subst (λ xs. Presents (net_of_walk w) (handed_by w) xs c.present.result c.present.new.row) c.as_mut_slice.ensures.value c.present.ensures)

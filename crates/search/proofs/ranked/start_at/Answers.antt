@@ -5,4 +5,4 @@ use Rattle.search.proofs.Places.{at_rank_nth}
 use Rattle.search.proofs.ranked.start_at.Goals as goal
 
 pub returns : goal.returns
-returns c = c.unwrap-or.ensures ∙ ap (λ o. unwrap_or o 0) c.start-link.ensures ∙ at_rank_nth (start_links (net_of c.args.site.now)) c.args.rank
+returns c = c.unwrap_or.ensures ∙ ap (λ o. unwrap_or o 0) c.start_link.ensures ∙ at_rank_nth (start_links (net_of c.args.site.now)) c.args.rank

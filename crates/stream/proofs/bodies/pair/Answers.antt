@@ -6,8 +6,8 @@ use Rattle.stream.proofs.bodies.pair.Goals as goal
 pub returns : goal.returns
 returns c =
     let body = c.args.body.now in
-    let e = c.from-be-bytes.ensures ∙ first_of_two body c.told-body in
-    let f = c.from-be-bytes-2.ensures ∙ second_of_two body c.told-body in
+    let e = c.from_be_bytes.ensures ∙ first_of_two body c.told-body in
+    let f = c.from_be_bytes-2.ensures ∙ second_of_two body c.told-body in
     record {
       first = e;
       second = f;

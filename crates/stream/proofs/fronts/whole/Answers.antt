@@ -7,5 +7,5 @@ use Rattle.stream.proofs.fronts.whole.Goals as goal
 pub returns : goal.returns
 returns g c =
     let bytes = c.args.bytes.now in
-    let chunk : IsFirstChunk bytes c.unwrap.result.now g.row.N = MatchOption-at_some (length bytes < g.row.N) (λ y. IsFirstChunk bytes y.now g.row.N) c.unwrap.result c.unwrap.ensures c.first-chunk.ensures.cases in
+    let chunk : IsFirstChunk bytes c.unwrap.result.now g.row.N = MatchOption-at_some (length bytes < g.row.N) (λ y. IsFirstChunk bytes y.now g.row.N) c.unwrap.result c.unwrap.ensures c.first_chunk.ensures.cases in
     chunk.same ∙ take_all g.row.N bytes (omega (arith, c.requires))

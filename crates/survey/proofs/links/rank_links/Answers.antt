@@ -9,6 +9,6 @@ pub loop-rank-preserved : goal.loop-rank-preserved
 loop-rank-preserved c =
     let t = toured c.args.tour.now in
     let f = others_at (copied c.args.net.now) t in
-    c.rank-others.ensures ∙ ap (λ xs. xs ++ f c.loop-rank.rank) c.loop-rank.invariant
+    c.rank_others.ensures ∙ ap (λ xs. xs ++ f c.loop-rank.rank) c.loop-rank.invariant
     ∙ append_assoc t.starts (flat_map f (range_with_len 1 (c.loop-rank.rank - 1))) (f c.loop-rank.rank)
     ∙ ap (λ xs. t.starts ++ xs) (sym (joined_more f c.loop-rank.rank c.loop-rank.auto.rank))

@@ -15,4 +15,4 @@ returns-in-108 c =
     let xs = c.args.words.now in
     let n : 5 ≤ length xs = omega (arith, ltb-false) in
     let b = begins_parts (codes "link ") xs n (simp (drop-drop, get_or-drop) (omega arith)) in
-    link_some xs (take (length xs - 5) (drop 5 xs)) c.two-numbers.result (b ∙ ap (λ ys. codes "link " ++ ys) (sym (take_rest xs 5))) c.two-numbers.ensures
+    link_some xs (take (length xs - 5) (drop 5 xs)) c.two_numbers.result (b ∙ ap (λ ys. codes "link " ++ ys) (sym (take_rest xs 5))) c.two_numbers.ensures

@@ -6,8 +6,8 @@ use Rattle.text.proofs.Decimals.{no_number, some_number, all_digits, not_too_gre
 use Rattle.text.proofs.numbers.number.Goals as goal
 use Rattle.text.proofs.numbers.number.Goals.{then-digit-lt48-via-then-digit-lt48, then-digit-lt48-via-else-digit-lt48+then-digit-gt57}
 
-pub returns-then-not-begins-number : goal.returns-then-not-begins-number
-returns-then-not-begins-number c = no_number c.args.digits.now (sym c.if-not-begins-number.ensures)
+pub returns-then-not-begins_number : goal.returns-then-not-begins_number
+returns-then-not-begins_number c = no_number c.args.digits.now (sym c.if-not-begins_number.ensures)
 
 pub returns-then-digit-lt48 : goal.returns-then-digit-lt48
 returns-then-digit-lt48 c = all_digits c.args.digits.now c.loop-digit.digit-index c.loop-digit-test.true (elim c.then-digit-lt48.branch [
@@ -31,5 +31,5 @@ returns c =
     let ds = c.args.digits.now in
     let all = take_all c.loop-digit.digit-index ds c.loop-digit-test.false in
     let e : c.loop-digit.value ≡ digits_value 10 ds = c.loop-digit.invariant.1 ∙ ap (digits_value 10) all in
-    let some = some_number ds (sym c.if-not-begins-number.ensures) in
+    let some = some_number ds (sym c.if-not-begins_number.ensures) in
     rw e (is_decimal ds (rw all at c.loop-digit.invariant.0) some.0 some.1 (omega (arith, c.loop-digit.invariant.2)))

@@ -5,16 +5,16 @@ use Rattle.lines.specs.Reports.{first_report, lined, reported}
 use Rattle.lines.proofs.Tellings.{fold_reported, told_start}
 use Rattle.lines.proofs.text.Lines.new.Goals as goal
 
-pub at-setting-requires : goal.at-setting-requires
-at-setting-requires c = omega (arith, c.links.ensures, (surveyed_fits c.args.site.now).few_links)
+pub at_setting-requires : goal.at_setting-requires
+at_setting-requires c = omega (arith, c.links.ensures, (surveyed_fits c.args.site.now).few_links)
 
 pub returns : goal.returns
 returns c =
     let room = length c.args.buffer.now in
-    let e = c.at-setting.ensures.report ∙ ap (λ T. first_report T room) (ap (λ n. take n c.start-table.result) c.links.ensures ∙ c.start-table.ensures.setting) in
+    let e = c.at_setting.ensures.report ∙ ap (λ T. first_report T room) (ap (λ n. take n c.start_table.result) c.links.ensures ∙ c.start_table.ensures.setting) in
     record {
       report = e;
-      spare = c.at-setting.ensures.spare;
+      spare = c.at_setting.ensures.spare;
       law = λ xs. ap (λ p. fold reported (lined p) xs) e ∙ told_start (net_of c.args.site.now) room xs;
       onward = fold_reported;
     }

@@ -10,10 +10,10 @@ loop-rank-init c = (refl, none_closed (net_of c.args.site.now) (surveyed_fits c.
 
 pub loop-rank-preserved : goal.loop-rank-preserved
 loop-rank-preserved c = (
-  c.set-link.auto.table ∙ c.loop-rank.invariant.0,
-  one_closed (net_of c.args.site.now) c.loop-rank.closed c.set-link.new.table c.loop-rank.rank
+  c.set_link.auto.table ∙ c.loop-rank.invariant.0,
+  one_closed (net_of c.args.site.now) c.loop-rank.closed c.set_link.new.table c.loop-rank.rank
       (c.loop-rank.auto.rank, omega (arith, c.loop-rank-test.true, c.bars-rank-end.ensures)) (surveyed_starts c.args.site.now)
-      c.loop-rank.invariant.1 (c.set-link.ensures ∙ ap (λ l. put c.loop-rank.closed l true) c.start-at.ensures.link),
+      c.loop-rank.invariant.1 (c.set_link.ensures ∙ ap (λ l. put c.loop-rank.closed l true) c.start_at.ensures.link),
 )
 
 pub returns : goal.returns

@@ -6,4 +6,4 @@ use Rattle.replay.proofs.pending.Pending.push.Goals as goal
 pub returns : goal.returns
 returns c =
     let p = c.args.self.now in
-    pending_push p.table p.depth (record { link_out = c.args.link-out; link_in = c.args.link-in }) (omega (arith, c.requires, p.long, stacked_length (map links_of_forward p.table) p.depth))
+    pending_push p.table p.depth (record { link_out = c.args.link_out; link_in = c.args.link_in }) (omega (arith, c.requires, p.long, stacked_length (map links_of_forward p.table) p.depth))

@@ -6,19 +6,19 @@ use Rattle.replay.specs.Refusals.{reverses_not}
 use Rattle.replay.proofs.Backs.{back_ok, back_reversible, back_taken}
 use Rattle.replay.proofs.player.Course.back.Goals as goal
 
-pub returns-then-not-take-back : goal.returns-then-not-take-back
-returns-then-not-take-back c = reverses_not c.if-not-take-back.ensures.1
+pub returns-then-not-take_back : goal.returns-then-not-take_back
+returns-then-not-take_back c = reverses_not c.if-not-take_back.ensures.1
 
 pub unwrap-board-requires : goal.unwrap-board-requires
 unwrap-board-requires c =
-    back_ok c.args.self c.args.link-out c.args.link-in (pending_of c.take-back.new.self) c.if-not-take-back.ensures c.exchange.result c.exchange.ensures
+    back_ok c.args.self c.args.link_out c.args.link_in (pending_of c.take_back.new.self) c.if-not-take_back.ensures c.exchange.result c.exchange.ensures
 
 pub invariant-of-result : goal.invariant-of-result
 invariant-of-result c =
-    let x : ExchangedBy c.args.self.board c.args.link-out c.args.link-in c.unwrap-board.result = MatchResult-at_ok _ _ c.unwrap-board.result c.unwrap-board.ensures c.exchange.ensures in
-    (back_reversible c.args.self c.args.link-out c.args.link-in (pending_of c.take-back.new.self) c.if-not-take-back.ensures c.unwrap-board.result x, tt)
+    let x : ExchangedBy c.args.self.board c.args.link_out c.args.link_in c.unwrap-board.result = MatchResult-at_ok _ _ c.unwrap-board.result c.unwrap-board.ensures c.exchange.ensures in
+    (back_reversible c.args.self c.args.link_out c.args.link_in (pending_of c.take_back.new.self) c.if-not-take_back.ensures c.unwrap-board.result x, tt)
 
 pub returns : goal.returns
 returns c =
-    let x : ExchangedBy c.args.self.board c.args.link-out c.args.link-in c.unwrap-board.result = MatchResult-at_ok _ _ c.unwrap-board.result c.unwrap-board.ensures c.exchange.ensures in
-    back_taken c.args.self c.args.link-out c.args.link-in (pending_of c.take-back.new.self) c.if-not-take-back.ensures _ x refl refl
+    let x : ExchangedBy c.args.self.board c.args.link_out c.args.link_in c.unwrap-board.result = MatchResult-at_ok _ _ c.unwrap-board.result c.unwrap-board.ensures c.exchange.ensures in
+    back_taken c.args.self c.args.link_out c.args.link_in (pending_of c.take_back.new.self) c.if-not-take_back.ensures _ x refl refl

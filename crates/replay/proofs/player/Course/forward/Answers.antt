@@ -11,28 +11,28 @@ use Rattle.replay.specs.Players.{course_place}
 use Rattle.replay.proofs.Forwards.{forward_reversible, room_left, forward_taken, forward_refused}
 use Rattle.replay.proofs.player.Course.forward.Goals as goal
 
-pub returns-then-link-out-link-in : goal.returns-then-link-out-link-in
-returns-then-link-out-link-in c =
-    subst (λ l. Refuses (board_net c.args.self.board) c.args.place (course_place c.args.self) (F c.args.link-out l) (SameLinks c.args.place)) c.if-link-out-link-in.true same
+pub returns-then-link_out-link_in : goal.returns-then-link_out-link_in
+returns-then-link_out-link_in c =
+    subst (λ l. Refuses (board_net c.args.self.board) c.args.place (course_place c.args.self) (F c.args.link_out l) (SameLinks c.args.place)) c.if-link_out-link_in.true same
 
-pub returns-then-is-deep : goal.returns-then-is-deep
-returns-then-is-deep c =
+pub returns-then-is_deep : goal.returns-then-is_deep
+returns-then-is_deep c =
     let s = c.args.self in
-    deep c.if-link-out-link-in.false (leb-true (board_net s.board).bars (length (pending_of s.pending) + 1) (sym c.if-is-deep.ensures))
+    deep c.if-link_out-link_in.false (leb-true (board_net s.board).bars (length (pending_of s.pending) + 1) (sym c.if-is_deep.ensures))
 
 pub invariant-of-result : goal.invariant-of-result
 invariant-of-result c = (
   ∥∥₁_map c.args.self.reversible (λ can. subst (CanReverse (board_net c.in-Ok.board) (setting_of c.in-Ok.board)) (sym c.push.ensures)
-      (forward_reversible c.args.self.board c.in-Ok.board c.args.link-out c.args.link-in c.if-link-out-link-in.false c.in-Ok.ensures (pending_of c.args.self.pending) can)),
+      (forward_reversible c.args.self.board c.in-Ok.board c.args.link_out c.args.link_in c.if-link_out-link_in.false c.in-Ok.ensures (pending_of c.args.self.pending) can)),
   tt,
 )
 
 pub returns-in-Ok : goal.returns-in-Ok
 returns-in-Ok c =
     let s = c.args.self in
-    forward_taken s c.args.link-out c.args.link-in c.if-link-out-link-in.false (room_left s c.if-is-deep.ensures) _ c.in-Ok.ensures c.push.ensures refl
+    forward_taken s c.args.link_out c.args.link_in c.if-link_out-link_in.false (room_left s c.if-is_deep.ensures) _ c.in-Ok.ensures c.push.ensures refl
 
 pub returns-in-Err : goal.returns-in-Err
 returns-in-Err c =
     let s = c.args.self in
-    forward_refused s c.args.link-out c.args.link-in c.if-link-out-link-in.false (room_left s c.if-is-deep.ensures) c.args.place c.in-Err.fault c.in-Err.ensures
+    forward_refused s c.args.link_out c.args.link_in c.if-link_out-link_in.false (room_left s c.if-is_deep.ensures) c.args.place c.in-Err.fault c.in-Err.ensures

@@ -2,5 +2,5 @@ use Rattle.replay.specs.Refusals.{stands_not}
 use Rattle.replay.proofs.Misplaced.{not_walking}
 use Rattle.replay.proofs.player.Course.take.Goals as goal
 
-pub returns-in-default : goal.returns-in-default
-returns-in-default c = stands_not (not_walking c.args.self c.args.entry c.in-default.not-Forward c.in-default.not-Back c.in-default.not-End)
+pub returns-in_default : goal.returns-in_default
+returns-in_default c = stands_not (not_walking c.args.self c.args.entry c.in_default.not-Forward c.in_default.not-Back c.in_default.not-End)

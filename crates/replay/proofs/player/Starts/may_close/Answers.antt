@@ -5,16 +5,16 @@ use Rattle.replay.specs.Refusals.{start_unserved, start_closed}
 use Rattle.replay.specs.Players.{row_setting}
 use Rattle.replay.proofs.player.Starts.may_close.Goals as goal
 
-pub returns-then-not-is-in-service : goal.returns-then-not-is-in-service
-returns-then-not-is-in-service c at count = start_unserved (λ served. both_ways false refl (c.if-not-is-in-service.ensures.1 served))
+pub returns-then-not-is_in_service : goal.returns-then-not-is_in_service
+returns-then-not-is_in_service c at count = start_unserved (λ served. both_ways false refl (c.if-not-is_in_service.ensures.1 served))
 
-pub has-closed-requires : goal.has-closed-requires
-has-closed-requires c = c.if-not-is-in-service.ensures.0 refl
+pub has_closed-requires : goal.has_closed-requires
+has_closed-requires c = c.if-not-is_in_service.ensures.0 refl
 
-pub returns-then-has-closed : goal.returns-then-has-closed
-returns-then-has-closed c at count = start_closed (c.if-not-is-in-service.ensures.0 refl) (sym c.if-has-closed.ensures)
+pub returns-then-has_closed : goal.returns-then-has_closed
+returns-then-has_closed c at count = start_closed (c.if-not-is_in_service.ensures.0 refl) (sym c.if-has_closed.ensures)
 
 pub returns : goal.returns
 returns c =
     let s = c.args.self.now in
-    (c.if-not-is-in-service.ensures.0 refl, not_from_open (row_setting s.site s.row.bytes) c.args.link (sym c.if-has-closed.ensures))
+    (c.if-not-is_in_service.ensures.0 refl, not_from_open (row_setting s.site s.row.bytes) c.args.link (sym c.if-has_closed.ensures))

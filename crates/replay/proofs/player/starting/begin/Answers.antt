@@ -5,9 +5,9 @@ use Rattle.replay.proofs.Begun.{course_begun}
 use Rattle.replay.proofs.player.starting.begin.Goals as goal
 
 pub invariant-of-result-2 : goal.invariant-of-result-2
-invariant-of-result-2 c = (∣ subst (CanReverse (board_net c.in-ok-board.board) (setting_of c.in-ok-board.board)) (sym c.new-2.ensures) tt ∣₁, tt)
+invariant-of-result-2 c = (∣ subst (CanReverse (board_net c.in_ok-board.board) (setting_of c.in_ok-board.board)) (sym c.new-2.ensures) tt ∣₁, tt)
 
 pub returns : goal.returns
 returns c =
-    course_begun c.args.site c.args.row.bytes c.args.row.closed _ _ (omega (arith, c.links-links.ensures)) c.in-ok-board.ensures c.new-2.ensures refl
+    course_begun c.args.site c.args.row.bytes c.args.row.closed _ _ (omega (arith, c.links-links.ensures)) c.in_ok-board.ensures c.new-2.ensures refl
     (omega (arith, c.bars.ensures, c.if-row-bars.false))

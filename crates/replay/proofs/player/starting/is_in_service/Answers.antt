@@ -7,4 +7,4 @@ use Rattle.replay.proofs.player.starting.is_in_service.Goals as goal
 pub returns : goal.returns
 returns c =
     let net = net_of c.args.site.now in
-    subst (λ r. Decides r (InService net c.args.link)) (sym c.is-some.ensures) (some_tells net c.args.link c.ends.result c.ends.ensures)
+    subst (λ r. Decides r (InService net c.args.link)) (sym c.is_some.ensures) (some_tells net c.args.link c.ends.result c.ends.ensures)

@@ -17,7 +17,7 @@ invariant-of-self c =
             s.begun,
             (
               descends_below (net_in s) (descent_of s) k s.ceiling (omega arith) s.down,
-              (s.shown, (c.feed-at-self.ensures ∙ ap (λ T. above0 k (fed_without (net_in s) T k)) s.shown, (s.along, tt))),
+              (s.shown, (c.feed_at-self.ensures ∙ ap (λ T. above0 k (fed_without (net_in s) T k)) s.shown, (s.along, tt))),
             ),
           ),
         ),

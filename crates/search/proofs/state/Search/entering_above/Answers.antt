@@ -6,10 +6,10 @@ use Rattle.search.specs.States.{net_in, setting_of}
 use Rattle.search.proofs.Held.{none_enters}
 use Rattle.search.proofs.state.Search.entering_above.Goals as goal
 
-pub returns-then-may-enter : goal.returns-then-may-enter
-returns-then-may-enter c = (
+pub returns-then-may_enter : goal.returns-then-may_enter
+returns-then-may_enter c = (
   omega (arith, c.loop-below.invariant.0),
-  c.if-may-enter.ensures,
+  c.if-may_enter.ensures,
   λ q lo hi. c.loop-below.invariant.1 q lo (omega arith),
 )
 
@@ -21,7 +21,7 @@ loop-below-preserved c =
         | yes l ↦ c.loop-below.invariant.1 q lo l at
         | no m ↦
             let e : q ≡ c.loop-below.below + 1 = omega arith in
-            c.if-may-enter.ensures (subst (EntersAt (net_in s) (setting_of s) s.ceiling) e at)
+            c.if-may_enter.ensures (subst (EntersAt (net_in s) (setting_of s) s.ceiling) e at)
       ],
     )
 

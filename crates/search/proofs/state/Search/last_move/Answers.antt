@@ -7,4 +7,4 @@ use Rattle.search.proofs.state.Search.last_move.Goals as goal
 pub returns : goal.returns
 returns c =
     let s = c.args.self.now in
-    last_top (λ f. ranks_of f.moved) s.frames s.depth c.index-self-self.result (0, 0) (eqb-false s.depth 0 (sym c.if-is-at-start.ensures)) (omega arith)
+    last_top (λ f. ranks_of f.moved) s.frames s.depth c.index-self-self.result (0, 0) (eqb-false s.depth 0 (sym c.if-is_at_start.ensures)) (omega arith)

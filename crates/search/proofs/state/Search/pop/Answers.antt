@@ -24,7 +24,7 @@ invariant-of-self c =
               down,
               (
                 pop_shown (net_in s) s.frames s.depth s.closed x c.requires.deep hi (surveyed_fits s.site) (surveyed_reached s.site) s.ceiling c.swap.new.closed s.down s.shown
-                    (c.swap.ensures ∙ ap₂ (λ g e. swapped s.closed.marked g e) c.link-at-entering.ensures c.start-at-leaving.ensures),
+                    (c.swap.ensures ∙ ap₂ (λ g e. swapped s.closed.marked g e) c.link_at-entering.ensures c.start_at-leaving.ensures),
                 (
                   ap (above0 k) (pop_here (net_in s) s.frames s.depth s.closed x c.requires.deep hi s.along),
                   (pop_along (net_in s) s.frames s.depth s.closed x c.requires.deep hi s.along, tt),

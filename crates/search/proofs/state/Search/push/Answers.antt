@@ -21,7 +21,7 @@ invariant-of-self c =
     let en = enters_test (net_in s) (surveyed_fits s.site) (surveyed_reached s.site) (descent_of s) k c.args.rank s.down c.requires in
     let down = push_down (net_in s) s.frames s.depth s.closed f hi k1 en s.down in
     let shown = push_shown (net_in s) s.frames s.depth s.closed f c.swap.new.closed hi s.shown
-    (c.swap.ensures ∙ ap₂ (λ e g. swapped s.closed.marked e g) c.start-at-leaving.ensures c.link-at-entering.ensures) in (
+    (c.swap.ensures ∙ ap₂ (λ e g. swapped s.closed.marked e g) c.start_at-leaving.ensures c.link_at-entering.ensures) in (
       length-set s.frames s.depth f ∙ s.long,
       (
         s.room,
@@ -34,7 +34,7 @@ invariant-of-self c =
               (
                 shown,
                 (
-                  c.feed-at-self.ensures ∙ ap (λ T. above0 (k - 1) (fed_without (net_in s) T (k - 1))) shown,
+                  c.feed_at-self.ensures ∙ ap (λ T. above0 (k - 1) (fed_without (net_in s) T (k - 1))) shown,
                   (push_along (net_in s) s.frames s.depth s.closed f hi s.along (held_above0 k (λ z. omega arith) s.here), tt),
                 ),
               ),

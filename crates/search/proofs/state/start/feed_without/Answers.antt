@@ -10,4 +10,4 @@ pub returns : goal.returns
 returns c =
     let net = net_of c.args.site.now in
     c.flood.ensures
-    ∙ ap (fed net) (ap (take (length net.links)) (c.put.ensures ∙ ap (λ l. put c.args.closed.now.marked l false) (c.from.ensures ∙ c.start-at.ensures)) ∙ put_first c.args.closed.now.marked (length net.links) (start_link_of net c.args.rank) false)
+    ∙ ap (fed net) (ap (take (length net.links)) (c.put.ensures ∙ ap (λ l. put c.args.closed.now.marked l false) (c.from.ensures ∙ c.start_at.ensures)) ∙ put_first c.args.closed.now.marked (length net.links) (start_link_of net c.args.rank) false)

@@ -15,7 +15,7 @@ pub loop-rank-preserved : goal.loop-rank-preserved
 loop-rank-preserved c =
     start_row_more (net_of c.args.site.now) c.loop-rank.closed.marked c.put.new.self.marked c.loop-rank.rank
     c.loop-rank.auto.rank (omega (arith, c.loop-rank-test.true, c.bars-rank-end.ensures)) (surveyed_starts c.args.site.now)
-    c.loop-rank.invariant (c.put.ensures ∙ ap (λ l. put c.loop-rank.closed.marked l true) (c.from.ensures ∙ c.start-at.ensures))
+    c.loop-rank.invariant (c.put.ensures ∙ ap (λ l. put c.loop-rank.closed.marked l true) (c.from.ensures ∙ c.start_at.ensures))
 
 pub returns : goal.returns
 returns c =

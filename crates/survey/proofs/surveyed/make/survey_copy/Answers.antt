@@ -11,40 +11,40 @@ use Rattle.survey.proofs.Reached.{all_reached_full}
 use Rattle.survey.proofs.Starts.{starts_inside, starts_distinct}
 use Rattle.survey.proofs.Whole.{visited_reached, surveys_unreached, surveys_all}
 use Rattle.survey.proofs.surveyed.make.survey_copy.Goals as goal
-use Rattle.survey.proofs.surveyed.make.survey_copy.Goals.{After-rank-links-links}
+use Rattle.survey.proofs.surveyed.make.survey_copy.Goals.{After-rank_links-links}
 
-pub returns-in-err-check-visited : goal.returns-in-err-check-visited
-returns-in-err-check-visited c =
+pub returns-in_err-check_visited : goal.returns-in_err-check_visited
+returns-in_err-check_visited c =
     let net = copied c.args.net in
-    let p = err_from_is_err_and c.from-residual.result c.from-residual.ensures.1 in
-    let f = c.in-err-check-visited.field-0.0 in
-    let u = subst (λ t. NotVisited net t f) c.whole-tour-visited.ensures c.in-err-check-visited.ensures in
+    let p = err_from_is_err_and c.from_residual.result c.from_residual.ensures.1 in
+    let f = c.in_err-check_visited.field-0.0 in
+    let u = subst (λ t. NotVisited net t f) c.whole_tour-visited.ensures c.in_err-check_visited.ensures in
     λ m e. rw (p.1, p.2) (subst (λ n. Surveys n (Err (Fault.Survey f))) e (surveys_unreached net (tested_within net c.args.net.within) f u))
 
-pub rank-starts-starts-requires : goal.rank-starts-starts-requires
-rank-starts-starts-requires c =
+pub rank_starts-starts-requires : goal.rank_starts-starts-requires
+rank_starts-starts-requires c =
     let net = copied c.args.net in
     let fit = tested_within net c.args.net.within in
     record {
-      inside = starts_inside net fit (toured c.whole-tour-visited.result) c.whole-tour-visited.ensures;
-      once = starts_distinct net fit (toured c.whole-tour-visited.result) c.whole-tour-visited.ensures;
+      inside = starts_inside net fit (toured c.whole_tour-visited.result) c.whole_tour-visited.ensures;
+      once = starts_distinct net fit (toured c.whole_tour-visited.result) c.whole_tour-visited.ensures;
     }
 
 -- every bar of the copied net is reached
-all_reached : (c : goal.After-rank-links-links) → AllReached (copied c.args.net)
+all_reached : (c : goal.After-rank_links-links) → AllReached (copied c.args.net)
 all_reached c =
     let net = copied c.args.net in
-    visited_reached net (tested_within net c.args.net.within) (subst (λ t. VisitedBelow t (net.bars + 1)) c.whole-tour-visited.ensures c.in-ok-check-visited.ensures)
+    visited_reached net (tested_within net c.args.net.within) (subst (λ t. VisitedBelow t (net.bars + 1)) c.whole_tour-visited.ensures c.in_ok-check_visited.ensures)
 
 pub invariant-of-result : goal.invariant-of-result
 invariant-of-result c =
     let net = copied c.args.net in
-    let e = c.whole-tour-visited.ensures in (
+    let e = c.whole_tour-visited.ensures in (
       ap listed c.order-bars.ensures ∙ ap (λ t. t.order) e,
       (
-        c.rank-starts-starts.ensures ∙ ap (λ t. t.starts) e,
+        c.rank_starts-starts.ensures ∙ ap (λ t. t.starts) e,
         (
-          c.rank-links-links.ensures ∙ ap (λ t. t.starts ++ others net t) e,
+          c.rank_links-links.ensures ∙ ap (λ t. t.starts ++ others net t) e,
           (
             all_reached_full net (tested_within net c.args.net.within) (all_reached c),
             tt,
@@ -56,4 +56,4 @@ invariant-of-result c =
 pub returns : goal.returns
 returns c =
     let net = copied c.args.net in
-    λ m e. surveys_all m _ e (subst WithinLimits e (tested_within net c.args.net.within)) (subst AllReached e (all_reached (goal.at.returns c).After-rank-links-links))
+    λ m e. surveys_all m _ e (subst WithinLimits e (tested_within net c.args.net.within)) (subst AllReached e (all_reached (goal.at.returns c).After-rank_links-links))

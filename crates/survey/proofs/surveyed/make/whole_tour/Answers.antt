@@ -3,4 +3,4 @@ use Rattle.survey.proofs.Steps.{tour_after}
 use Rattle.survey.proofs.surveyed.make.whole_tour.Goals as goal
 
 pub returns : goal.returns
-returns c = tour_after (copied c.args.net.now) (toured c.new-visited.result) (toured c.visit-bar.new.tour) c.new-visited.ensures c.visit-bar.ensures.after
+returns c = tour_after (copied c.args.net.now) (toured c.new-visited.result) (toured c.visit_bar.new.tour) c.new-visited.ensures c.visit_bar.ensures.after

@@ -4,14 +4,14 @@ use Rattle.survey.specs.Tables.{copied, toured}
 use Rattle.survey.proofs.tour.visits.+look_at_link_visit_bar.Given as goal
 
 -- the number of unvisited bars falls with each visit
-abbrev pub decreases-look-at-link : goal.decreases-look-at-link
-decreases-look-at-link l = (32 - length (toured l.tour.now).order) * 2
+abbrev pub decreases-look_at_link : goal.decreases-look_at_link
+decreases-look_at_link l = (32 - length (toured l.tour.now).order) * 2
 
-abbrev pub decreases-visit-bar : goal.decreases-visit-bar
-decreases-visit-bar l = (32 - length (toured l.tour.now).order) * 2 + 1
+abbrev pub decreases-visit_bar : goal.decreases-visit_bar
+decreases-visit_bar l = (32 - length (toured l.tour.now).order) * 2 + 1
 
 -- so many links were looked at
-abbrev pub invariant-visit-bar-loop-done : goal.invariant-visit-bar-loop-done
-invariant-visit-bar-loop-done l =
+abbrev pub invariant-visit_bar-loop-done : goal.invariant-visit_bar-loop-done
+invariant-visit_bar-loop-done l =
     (length (toured l.initial.tour).order ≤ length (toured l.tour).order)
     × ((n : ℕ) → 32 - length (toured l.initial.tour).order ≤ n → toured l.tour ≡ looks n (copied l.net) l.bar (toured l.initial.tour) l.done)

@@ -9,5 +9,5 @@ use Rattle.tally.proofs.counts.Tally.new.Goals as goal
 pub invariant-of-result : goal.invariant-of-result
 invariant-of-result c =
     let net = net_of c.args.site.now in
-    let e = c.start-table.ensures in
-    (sym (length-map c.start-table.result count_of) ∙ ap length e ∙ start_long net, (omega arith, (ap (counts_to 1) e ∙ start_counts_to net, tt)))
+    let e = c.start_table.ensures in
+    (sym (length-map c.start_table.result count_of) ∙ ap length e ∙ start_long net, (omega arith, (ap (counts_to 1) e ∙ start_counts_to net, tt)))

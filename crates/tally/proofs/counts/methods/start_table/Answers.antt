@@ -8,9 +8,9 @@ use Rattle.tally.proofs.counts.methods.start_table.Goals as goal
 
 pub loop-place-preserved : goal.loop-place-preserved
 loop-place-preserved c = (
-  length-set c.loop-place.table c.loop-place.place c.start-record.result ∙ c.loop-place.invariant.0,
-  fill_more count_of (start_count (net_of c.args.site.now)) c.loop-place.table c.loop-place.place c.start-record.result
-      (omega (arith, c.loop-place.invariant.0)) c.loop-place.invariant.1 c.start-record.ensures,
+  length-set c.loop-place.table c.loop-place.place c.start_record.result ∙ c.loop-place.invariant.0,
+  fill_more count_of (start_count (net_of c.args.site.now)) c.loop-place.table c.loop-place.place c.start_record.result
+      (omega (arith, c.loop-place.invariant.0)) c.loop-place.invariant.1 c.start_record.ensures,
 )
 
 pub returns : goal.returns

@@ -6,13 +6,13 @@ use Rattle.walk.proofs.cursor.Cursor.step.Goals as goal
 pub returns-in-Some : goal.returns-in-Some
 returns-in-Some c =
     let at = c.args.self.now in
-    let s = c.to-child.new.self in
-    let moved = c.to-child.ensures in
+    let s = c.to_child.new.self in
+    let moved = c.to_child.ensures in
     let settled = c.settle-self.ensures in
     record {
       net = settled.net ∙ moved.net;
-      setting = ap₂ setting_at settled.net settled.setting ∙ child_setting at c.in-Some.rank c.in-Some.is s c.to-child.result moved.net moved.moved;
-      coming = settled.coming ∙ child_coming at c.in-Some.rank c.in-Some.is s c.to-child.result moved.net moved.moved;
+      setting = ap₂ setting_at settled.net settled.setting ∙ child_setting at c.in-Some.rank c.in-Some.is s c.to_child.result moved.net moved.moved;
+      coming = settled.coming ∙ child_coming at c.in-Some.rank c.in-Some.is s c.to_child.result moved.net moved.moved;
     }
 
 pub returns-in-Some-back : goal.returns-in-Some-back

@@ -19,5 +19,5 @@ loop-rank-preserved c =
     let moved = c.if-not-lower.ensures in (
       moved.net ∙ c.loop-rank.invariant.0,
       moved.moved.0 ∙ c.loop-rank.invariant.1,
-      lowered c.loop-rank.search c.lower.new.self c.loop-rank.above moved.net moved.moved.0 moved.moved.1 c.in-default.ensures ∙ c.loop-rank.invariant.2,
+      lowered c.loop-rank.search c.lower.new.self c.loop-rank.above moved.net moved.moved.0 moved.moved.1 c.in_default.ensures ∙ c.loop-rank.invariant.2,
     )

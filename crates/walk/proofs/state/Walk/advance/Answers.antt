@@ -41,7 +41,7 @@ returns g c =
         | then-loop-count-test+in-default way ↦
             all (sum c.loop-count-test.collector) (spare c.loop-count-test.collector) (record { count = c.loop-count.count; word = c.word-word.result })
             inv.1 (ap sum way.collector-is ∙ inv.2) (omega (arith, inv.3, ap spare way.collector-is)) inv.4 within word
-            (inr (inl (ap (λ net. left_after net (handed_by v)) (sym inv.0) ∙ none_left v way.in-default.ensures)))
+            (inr (inl (ap (λ net. left_after net (handed_by v)) (sym inv.0) ∙ none_left v way.in_default.ensures)))
         | then-loop-count-test+in-Some+then-not-offer way ↦
             let refused = way.if-not-offer.ensures in
             all (sum c.loop-count-test.collector) (spare c.loop-count-test.collector) (record { count = c.loop-count.count; word = c.word-word.result })

@@ -3,4 +3,4 @@ use Rattle.walk.proofs.Answered.{done_test}
 use Rattle.walk.proofs.state.Walk.is_finished.Goals as goal
 
 pub returns : goal.returns
-returns c = c.is-done.ensures ∙ done_test c.args.self.now
+returns c = c.is_done.ensures ∙ done_test c.args.self.now

@@ -11,7 +11,7 @@ returns c =
     let w = c.args.self.now in
     let s = w.cursor.search in
     record {
-      answer = record { settings = c.settings-told.ensures; exchanges = c.exchanges-told.ensures; finished = c.is-finished.ensures };
+      answer = record { settings = c.settings_told.ensures; exchanges = c.exchanges_told.ensures; finished = c.is_finished.ensures };
       unbroken = told_unbroken (net_of_walk w) (search_fits s) (search_reached s) (handed_by w);
-      complete = λ e. told_complete (net_of_walk w) (search_fits s) (search_reached s) (handed_by w) (omega (arith, eqb-true (left_after (net_of_walk w) (handed_by w)) 0 (sym c.is-finished.ensures ∙ e)));
+      complete = λ e. told_complete (net_of_walk w) (search_fits s) (search_reached s) (handed_by w) (omega (arith, eqb-true (left_after (net_of_walk w) (handed_by w)) 0 (sym c.is_finished.ensures ∙ e)));
     }

@@ -10,7 +10,7 @@ use Rattle.walk.proofs.state.Walk.pass.Goals as goal
 pub overflow-add-self : goal.overflow-add-self
 overflow-add-self c =
     let w = c.args.self.now in
-    omega (arith, settings_fit w.cursor w.exchanges (said_by c.args.exchange) c.requires, w.counted, c.settings-told.ensures)
+    omega (arith, settings_fit w.cursor w.exchanges (said_by c.args.exchange) c.requires, w.counted, c.settings_told.ensures)
 
 pub overflow-add-self-2 : goal.overflow-add-self-2
 overflow-add-self-2 c =
@@ -31,7 +31,7 @@ invariant-of-self c =
           c.step.ensures.setting ∙ ap₂ (λ T xs. reached_by T (take 1 xs)) w.reached w.coming ∙ reached_more net n x c.requires (start_setting net)
               ∙ ap (λ m. reached_by (start_setting m) (take (n + 1) (listing m))) (sym same),
           (
-            ap₂ (λ a b. a + b) w.counted c.settings-told.ensures ∙ sym (told_more net n x c.requires) ∙ ap (λ m. length (told m (take (n + 1) (listing m)))) (sym same),
+            ap₂ (λ a b. a + b) w.counted c.settings_told.ensures ∙ sym (told_more net n x c.requires) ∙ ap (λ m. length (told m (take (n + 1) (listing m)))) (sym same),
             tt,
           ),
         ),

@@ -11,7 +11,7 @@ loop-at-preserved c =
     let T = reached_at c.args.self.now.cursor in
     let shown : ℕ → ℕ = λ k. cond (get_or T k false) 1 0 in
     let next : c.loop-at.at + 1 ≡ suc c.loop-at.at = omega arith in
-    let byte : c.byte-of.result ≡ shown c.loop-at.at = c.byte-of.ensures ∙ ap₂ (λ S k. cond (nth S k false) 1 0) (sym c.args.self.now.reached) next in
+    let byte : c.byte_of.result ≡ shown c.loop-at.at = c.byte_of.ensures ∙ ap₂ (λ S k. cond (nth S k false) 1 0) (sym c.args.self.now.reached) next in
     subst (λ b. (k : ℕ) → k < c.loop-at.at + 1 → get_or (set c.loop-at.row c.loop-at.at b) k 0 ≡ shown k) (sym byte)
     (fill_by_more shown c.loop-at.row c.loop-at.at 0 (omega arith) c.loop-at.invariant)
 

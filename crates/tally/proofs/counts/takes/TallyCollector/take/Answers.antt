@@ -5,19 +5,19 @@ use Rattle.tally.specs.Tallies.{counts_of}
 use Rattle.tally.proofs.Bounds.{counts_to_more, counts_to_after}
 use Rattle.tally.proofs.counts.takes.TallyCollector.take.Goals as goal
 
-pub count-after-requires : goal.count-after-requires
-count-after-requires c =
+pub count_after-requires : goal.count_after-requires
+count_after-requires c =
     let t = c.switch-2.new.self in
     counts_to_more (t.taken + 1) (2 ^ 62) (counts_of t) (omega (arith, c.switch.ensures.taken, c.switch-2.ensures.taken, c.args.self.now.few)) t.counted
 
 pub invariant-of-self : goal.invariant-of-self
 invariant-of-self c =
     let t = c.switch-2.new.self in (
-      c.count-after.auto.table ∙ t.long,
+      c.count_after.auto.table ∙ t.long,
       (
         omega (arith, c.switch.ensures.taken, c.switch-2.ensures.taken, c.args.self.now.few),
         (
-          ap (counts_to (t.taken + 1 + 1)) c.count-after.ensures ∙ counts_to_after (t.taken + 1) (is_forward c.kind.result) (counts_of t) t.counted,
+          ap (counts_to (t.taken + 1 + 1)) c.count_after.ensures ∙ counts_to_after (t.taken + 1) (is_forward c.kind.result) (counts_of t) t.counted,
           tt,
         ),
       ),
