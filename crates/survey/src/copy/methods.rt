@@ -13,7 +13,7 @@ use net::NetSource;
 impl NetCopy {
     // The net of a source that is within the limits; else the first question that is answered no.
     pub(crate) fn copy<S: NetSource>(source: &S) -> Result<NetCopy, NetFault>
-        ensures { MatchResult result (λ n. copied n ≡ meaning source.now) (λ f. Surveys (S.meaning source.now) (Err (Net f))) }
+        ensures { MatchResult result (λ n. copied n ≡ S.meaning source.now) (λ f. Surveys (S.meaning source.now) (Err (Net f))) }
     {
         net::check(source)?;
         let links = source.links() as u32;

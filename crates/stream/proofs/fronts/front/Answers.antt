@@ -7,7 +7,7 @@ pub returns-in_default : goal.returns-in_default
 returns-in_default c = nothing_stands c.args.bytes.now (search rules)
 
 pub returns-in-Some : goal.returns-in-Some
-returns-in-Some c = handed c.args.bytes.now (λ i. omega (arith, c.type-inv.bytes i)) c.in-Some.found.1.now c.in-Some.found.0 c.in-Some.ensures
+returns-in-Some c = handed c.args.bytes.now (λ i. omega (arith, c.type_inv.bytes i)) c.in-Some.found.1.now c.in-Some.found.0 c.in-Some.ensures
 
 pub returns-in-None : goal.returns-in-None
 returns-in-None c = (cut_stands c.args.bytes.now (search rules) c.in-None.ensures c.if-is_kind.ensures, refl)

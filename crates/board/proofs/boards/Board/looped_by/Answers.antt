@@ -7,19 +7,13 @@ use Rattle.board.proofs.Held.{row_put}
 use Rattle.board.proofs.Decided.{board_radial}
 use Rattle.board.proofs.boards.Board.looped_by.Goals as goal
 
-pub invariant-of-result : goal.invariant-of-result
-invariant-of-result c =
+pub invariant_of-result : goal.invariant_of-result
+invariant_of-result c =
     let b = c.args.self in
     let l = c.args.link in
     let T = setting_of b in
     let e = row_put (board_net b) b.closed c.put.new.self l true c.put.ensures in
-    let (lo, hi) = joins_range (board_net b) c.requires.served.2 in (
-      ∣ c.requires.served ∣₁,
-      (
-        subst (λ S. Closed S l) (sym e) (closing_closes T l lo (omega (arith, (board_radial b).one_a_link))),
-        (∣ subst (Radial (board_net b)) (sym (ap (λ S. opening S l) e ∙ put_back T l false true (open_from_not T l c.requires.opened))) (board_radial b) ∣₁, tt),
-      ),
-    )
+    let (lo, hi) = joins_range (board_net b) c.requires.served.2 in record { served = ∣ c.requires.served ∣₁; last = subst (λ S. Closed S l) (sym e) (closing_closes T l lo (omega (arith, (board_radial b).one_a_link))); radial = ∣ subst (Radial (board_net b)) (sym (ap (λ S. opening S l) e ∙ put_back T l false true (open_from_not T l c.requires.opened))) (board_radial b) ∣₁ }
 
 pub returns : goal.returns
 returns c =

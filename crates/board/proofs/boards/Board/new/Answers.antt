@@ -1,5 +1,5 @@
 use Rattle.std.proofs.Common.{refl}
 use Rattle.board.proofs.boards.Board.new.Goals as goal
 
-pub invariant-of-result : goal.invariant-of-result
-invariant-of-result c = (∣ c.if-not-is_radial.ensures.0 refl ∣₁, tt)
+pub invariant_of-result : goal.invariant_of-result
+invariant_of-result c = ∣ c.if-not-is_radial.ensures.0 refl ∣₁

@@ -5,11 +5,11 @@ use Rattle.board.proofs.Held.{row_put}
 use Rattle.board.proofs.Splits.{on_loop_radial}
 use Rattle.board.proofs.boards.Looped.open.Goals as goal
 
-pub invariant-of-result : goal.invariant-of-result
-invariant-of-result c =
+pub invariant_of-result : goal.invariant_of-result
+invariant_of-result c =
     let s = c.args.self in
     let e = row_put (looped_net s) s.closed c.put.new.self c.args.link false c.put.ensures in
-    (∣ subst (Radial (looped_net s)) (sym e) (on_loop_radial s c.args.link c.requires) ∣₁, tt)
+    ∣ subst (Radial (looped_net s)) (sym e) (on_loop_radial s c.args.link c.requires) ∣₁
 
 pub returns : goal.returns
 returns c =

@@ -1,5 +1,5 @@
 use Rattle.std.proofs.lemmas.List.{length-replicate}
 use Rattle.flood.proofs.marks.Marks.new.Goals as goal
 
-pub invariant-of-result : goal.invariant-of-result
-invariant-of-result g c = (length-replicate g.row.N _, tt)
+pub invariant_of-result : goal.invariant_of-result
+invariant_of-result g c = length-replicate g.row.N _

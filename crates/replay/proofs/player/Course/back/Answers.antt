@@ -13,10 +13,10 @@ pub unwrap-board-requires : goal.unwrap-board-requires
 unwrap-board-requires c =
     back_ok c.args.self c.args.link_out c.args.link_in (pending_of c.take_back.new.self) c.if-not-take_back.ensures c.exchange.result c.exchange.ensures
 
-pub invariant-of-result : goal.invariant-of-result
-invariant-of-result c =
+pub invariant_of-result : goal.invariant_of-result
+invariant_of-result c =
     let x : ExchangedBy c.args.self.board c.args.link_out c.args.link_in c.unwrap-board.result = MatchResult-at_ok _ _ c.unwrap-board.result c.unwrap-board.ensures c.exchange.ensures in
-    (back_reversible c.args.self c.args.link_out c.args.link_in (pending_of c.take_back.new.self) c.if-not-take_back.ensures c.unwrap-board.result x, tt)
+    back_reversible c.args.self c.args.link_out c.args.link_in (pending_of c.take_back.new.self) c.if-not-take_back.ensures c.unwrap-board.result x
 
 pub returns : goal.returns
 returns c =

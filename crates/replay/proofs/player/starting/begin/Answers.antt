@@ -4,8 +4,8 @@ use Rattle.replay.specs.Reversals.{CanReverse}
 use Rattle.replay.proofs.Begun.{course_begun}
 use Rattle.replay.proofs.player.starting.begin.Goals as goal
 
-pub invariant-of-result-2 : goal.invariant-of-result-2
-invariant-of-result-2 c = (∣ subst (CanReverse (board_net c.in_ok-board.board) (setting_of c.in_ok-board.board)) (sym c.new-2.ensures) tt ∣₁, tt)
+pub invariant_of-result-2 : goal.invariant_of-result-2
+invariant_of-result-2 c = (∣ subst (CanReverse (board_net c.in_ok-board.board) (setting_of c.in_ok-board.board)) (sym c.new-2.ensures) tt ∣₁, tt)
 
 pub returns : goal.returns
 returns c =

@@ -4,22 +4,7 @@ use Rattle.search.specs.States.{net_in, descent_of}
 use Rattle.search.proofs.Depths.{descends_below}
 use Rattle.search.proofs.state.Search.descend.Goals as goal
 
-pub invariant-of-self : goal.invariant-of-self
-invariant-of-self c =
+pub invariant_of-self : goal.invariant_of-self
+invariant_of-self c =
     let s = c.args.self.now in
-    let k = s.ceiling - 1 in (
-      s.long,
-      (
-        s.room,
-        (
-          omega (arith, s.shallow),
-          (
-            s.begun,
-            (
-              descends_below (net_in s) (descent_of s) k s.ceiling (omega arith) s.down,
-              (s.shown, (c.feed_at-self.ensures ∙ ap (λ T. above0 k (fed_without (net_in s) T k)) s.shown, (s.along, tt))),
-            ),
-          ),
-        ),
-      ),
-    )
+    let k = s.ceiling - 1 in record { long = s.long; room = s.room; shallow = omega (arith, s.shallow); begun = s.begun; down = descends_below (net_in s) (descent_of s) k s.ceiling (omega arith) s.down; shown = s.shown; here = c.feed_at-self.ensures ∙ ap (λ T. above0 k (fed_without (net_in s) T k)) s.shown; along = s.along }

@@ -14,20 +14,15 @@ loop-link-preserved g c =
       rw e (table_more net c.loop-link.ends c.loop-link.link (omega (arith, c.in_ok-check.ensures.few_links)) c.loop-link.invariant.1),
     )
 
-pub invariant-of-result : goal.invariant-of-result
-invariant-of-result g c = (
-  c.loop-link.invariant.0,
-  (
-    omega (arith, c.in_ok-check.ensures.few_links),
-    (
-      table_within c.loop-link.ends c.links-links.result
-          (omega (arith, c.in_ok-check.ensures.few_links))
-          (g.S.NetSource.meaning c.args.source.now) c.bars-bars.result c.bars-bars.ensures c.links-links.ensures
-          (λ k h. c.loop-link.invariant.1 k (omega arith)) c.in_ok-check.ensures,
-      tt,
-    ),
-  ),
-)
+pub invariant_of-result : goal.invariant_of-result
+invariant_of-result g c = record {
+  long = c.loop-link.invariant.0;
+  few = omega (arith, c.in_ok-check.ensures.few_links);
+  within = table_within c.loop-link.ends c.links-links.result
+      (omega (arith, c.in_ok-check.ensures.few_links))
+      (g.S.NetSource.meaning c.args.source.now) c.bars-bars.result c.bars-bars.ensures c.links-links.ensures
+      (λ k h. c.loop-link.invariant.1 k (omega arith)) c.in_ok-check.ensures;
+}
 
 pub returns : goal.returns
 returns g c = table_filled c.loop-link.ends c.links-links.result (omega (arith, c.in_ok-check.ensures.few_links))

@@ -6,23 +6,11 @@ use Rattle.survey.proofs.ranking.Ranking.add.Goals as goal
 pub bounds-self-at : goal.bounds-self-at
 bounds-self-at g c = add_room c.args.self.now c.args.x (c.requires.low, c.requires.high) c.requires.new
 
-pub invariant-of-self : goal.invariant-of-self
-invariant-of-self g c =
+pub invariant_of-self : goal.invariant_of-self
+invariant_of-self g c =
     let r = c.args.self.now in
     let x = c.args.x in
-    let lt = add_room r x (c.requires.low, c.requires.high) c.requires.new in (
-      length-set r.items r.count x ∙ r.long,
-      (
-        omega arith,
-        (
-          add_inside r x (c.requires.low, c.requires.high) c.requires.new,
-          (
-            add_once r x (c.requires.low, c.requires.high) c.requires.new,
-            (add_tied r x (c.requires.low, c.requires.high) c.requires.new, tt),
-          ),
-        ),
-      ),
-    )
+    let lt = add_room r x (c.requires.low, c.requires.high) c.requires.new in record { long = length-set r.items r.count x ∙ r.long; within = omega arith; inside = add_inside r x (c.requires.low, c.requires.high) c.requires.new; once = add_once r x (c.requires.low, c.requires.high) c.requires.new; tied = add_tied r x (c.requires.low, c.requires.high) c.requires.new }
 
 pub returns : goal.returns
 returns g c = add_last c.args.self.now c.args.x (c.requires.low, c.requires.high) c.requires.new

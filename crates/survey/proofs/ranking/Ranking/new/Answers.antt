@@ -3,5 +3,5 @@ use Rattle.std.proofs.lemmas.List.{length-replicate}
 use Rattle.survey.proofs.Rows.{table_none}
 use Rattle.survey.proofs.ranking.Ranking.new.Goals as goal
 
-pub invariant-of-result : goal.invariant-of-result
-invariant-of-result g c = (length-replicate g.row.N 0, (omega arith, (refl, (refl, (table_none g.row.N, tt)))))
+pub invariant_of-result : goal.invariant_of-result
+invariant_of-result g c = record { long = length-replicate g.row.N 0; within = omega arith; inside = refl; once = refl; tied = table_none g.row.N }

@@ -36,22 +36,10 @@ all_reached c =
     let net = copied c.args.net in
     visited_reached net (tested_within net c.args.net.within) (subst (λ t. VisitedBelow t (net.bars + 1)) c.whole_tour-visited.ensures c.in_ok-check_visited.ensures)
 
-pub invariant-of-result : goal.invariant-of-result
-invariant-of-result c =
+pub invariant_of-result : goal.invariant_of-result
+invariant_of-result c =
     let net = copied c.args.net in
-    let e = c.whole_tour-visited.ensures in (
-      ap listed c.order-bars.ensures ∙ ap (λ t. t.order) e,
-      (
-        c.rank_starts-starts.ensures ∙ ap (λ t. t.starts) e,
-        (
-          c.rank_links-links.ensures ∙ ap (λ t. t.starts ++ others net t) e,
-          (
-            all_reached_full net (tested_within net c.args.net.within) (all_reached c),
-            tt,
-          ),
-        ),
-      ),
-    )
+    let e = c.whole_tour-visited.ensures in record { bars_ranked = ap listed c.order-bars.ensures ∙ ap (λ t. t.order) e; starts_ranked = c.rank_starts-starts.ensures ∙ ap (λ t. t.starts) e; links_ranked = c.rank_links-links.ensures ∙ ap (λ t. t.starts ++ others net t) e; all_ranked = all_reached_full net (tested_within net c.args.net.within) (all_reached c) }
 
 pub returns : goal.returns
 returns c =

@@ -4,11 +4,8 @@ use Rattle.survey.specs.Listed.{listed}
 use Rattle.survey.proofs.Rows.{length_listed}
 use Rattle.survey.proofs.tour.TourTables.find.Goals as goal
 
-pub invariant-of-self : goal.invariant-of-self
-invariant-of-self c = (
-  length-set c.args.self.now.starts c.args.self.now.count c.args.link ∙ c.args.self.now.long,
-  (ap length c.add.ensures ∙ omega (arith, length_push (listed c.args.self.now.order) c.args.bar), tt),
-)
+pub invariant_of-self : goal.invariant_of-self
+invariant_of-self c = record { long = length-set c.args.self.now.starts c.args.self.now.count c.args.link ∙ c.args.self.now.long; paired = ap length c.add.ensures ∙ omega (arith, length_push (listed c.args.self.now.order) c.args.bar) }
 
 pub returns : goal.returns
 returns c =

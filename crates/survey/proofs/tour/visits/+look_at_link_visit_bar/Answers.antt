@@ -26,10 +26,10 @@ look_at_link-find-requires t c =
     let d = (goal.at.look_at_link-find-requires t c).Else-is_some in
     let w = tested_within (copied c.args.net.now) c.args.net.now.within in
     let (lo, hi) = across_bar (copied c.args.net.now) w c.args.link c.args.bar c.in-Some.other (led t d) in
-    record { low = lo; high = omega (arith, w.few-bars); new = unvisited t d }
+    record { low = lo; high = omega (arith, w.few_bars); new = unvisited t d }
 
-pub look_at_link_visit_bar-requires : goal.look_at_link_visit_bar-requires
-look_at_link_visit_bar-requires t c =
+pub look_at_link-visit_bar-requires : goal.look_at_link-visit_bar-requires
+look_at_link-visit_bar-requires t c =
     let e = ap (λ u. length u.order) c.find.ensures in
     (omega (arith, e, length_push (listed c.args.tour.now.order) c.in-Some.other, length_listed c.find.new.self.order, c.decreases), tt)
 

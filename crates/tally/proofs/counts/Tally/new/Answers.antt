@@ -6,8 +6,8 @@ use Rattle.tally.specs.Tables.{count_of}
 use Rattle.tally.proofs.Starts.{start_long, start_counts_to}
 use Rattle.tally.proofs.counts.Tally.new.Goals as goal
 
-pub invariant-of-result : goal.invariant-of-result
-invariant-of-result c =
+pub invariant_of-result : goal.invariant_of-result
+invariant_of-result c =
     let net = net_of c.args.site.now in
     let e = c.start_table.ensures in
-    (sym (length-map c.start_table.result count_of) ∙ ap length e ∙ start_long net, (omega arith, (ap (counts_to 1) e ∙ start_counts_to net, tt)))
+    record { long = sym (length-map c.start_table.result count_of) ∙ ap length e ∙ start_long net; few = omega arith; counted = ap (counts_to 1) e ∙ start_counts_to net }

@@ -6,20 +6,11 @@ use Rattle.tally.proofs.Bounds.{counts_to_switched}
 use Rattle.tally.proofs.Records.{record_switched}
 use Rattle.tally.proofs.counts.Tally.switch.Goals as goal
 
-pub invariant-of-self : goal.invariant-of-self
-invariant-of-self c =
-    let t = c.args.self.now in (
-      length-set t.table _ c.switched.result ∙ t.long,
-      (
-        t.few,
-        (
-          ap (counts_to (t.taken + 1))
+pub invariant_of-self : goal.invariant_of-self
+invariant_of-self c =
+    let t = c.args.self.now in record { long = length-set t.table _ c.switched.result ∙ t.long; few = t.few; counted = ap (counts_to (t.taken + 1))
               (record_switched t.table c.args.link c.args.closed c.switched.result _ c.requires.0 (omega (arith, c.requires.1, t.long)) c.switched.ensures)
-              ∙ counts_to_switched (t.taken + 1) (counts_of t) c.args.link c.args.closed t.counted,
-          tt,
-        ),
-      ),
-    )
+              ∙ counts_to_switched (t.taken + 1) (counts_of t) c.args.link c.args.closed t.counted }
 
 pub returns : goal.returns
 returns c =
