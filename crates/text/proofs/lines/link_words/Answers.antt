@@ -3,8 +3,8 @@ use Rattle.std.proofs.lemmas.List.{take_rest, get_or-drop, drop-drop, drop_all}
 use Rattle.text.proofs.Words.{begins_parts, link_some}
 use Rattle.text.proofs.lines.link_words.Goals as goal
 
-pub returns-in-111 : goal.returns-in-111
-returns-in-111 c =
+pub returns-in-out : goal.returns-in-out
+returns-in-out c =
     let xs = c.args.words.now in
     let n : length xs ≡ 3 = omega (arith, ltb-true, ltb-false) in
     let b = begins_parts (codes "out") xs (omega arith) (simp (drop-drop, get_or-drop) (omega arith)) in
