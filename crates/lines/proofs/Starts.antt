@@ -1,6 +1,6 @@
 -- The start setting: its links closed one by one.
 use Rattle.std.proofs.Common.{◌≡◌, ℕ, zero, suc, ◌+◌, ◌-◌, ◌<◌, ◌≤◌, Bool, true, false, List, [], ◌∷◌, length, take, replicate, Some, sym, refl, ap, ◌∙◌, arith}
-use Rattle.std.proofs.lemmas.List.{take_all, take_replicate}
+use Rattle.std.proofs.lemmas.List.{take_all, take-replicate}
 use Rattle.std.proofs.ByRecursion.{All-get_or}
 use Rattle.std.proofs.lemmas.List.Sums.{fold_more}
 use Rattle.net.specs.Nets.{nth, put, Net}
@@ -41,7 +41,7 @@ module _ (s : Surveyed) (k : ℕ) (is : IsStart (net_of s) k) where
 
 module _ (net : Net) where
   pub none_closed : length net.links ≤ 60 → take (length net.links) (replicate 60 false) ≡ just_closed net (take (1 - 1) (start_links net))
-  none_closed h = take_replicate (length net.links) 60 false h
+  none_closed h = take-replicate (length net.links) 60 false h
 
   pub one_closed : (xs ys : List Bool) (k : ℕ) → IsStart net k → length (start_links net) + 1 ≡ net.bars
       → take (length net.links) xs ≡ just_closed net (take (k - 1) (start_links net)) → ys ≡ put xs (start_link_of net k) true

@@ -1,6 +1,6 @@
 -- Every link is open: the exchanges begin at once where the net has one bar.
 use Rattle.std.proofs.Common.{◌≡◌, ℕ, zero, suc, ◌+◌, true, false, ◌∷◌, map, length, get_or, replicate, is_ok, Ok, Err, Result, sym, refl, ap, ◌∙◌, subst, ap₂, arith}
-use Rattle.std.proofs.lemmas.List.{length-replicate, take_replicate}
+use Rattle.std.proofs.lemmas.List.{length-replicate, take-replicate}
 use Rattle.faults.specs.declared.BoardFault.{BoardFault}
 use Rattle.net.specs.Nets.{nth, Net, infeed}
 use Rattle.net.specs.Settings.{closed_links, here, Radial}
@@ -47,7 +47,7 @@ module _ (site : Surveyed) (row : Row) (zeros : row.bytes ≡ replicate 60 0) (n
   row_open : row_setting site row.bytes ≡ all_open (net_of site)
   row_open =
       let n = length (net_of site).links in
-      ap (row_setting site) zeros ∙ ap (map is_closing_byte) (take_replicate n 60 0 (surveyed_fits site).few_links) ∙ map_replicate n
+      ap (row_setting site) zeros ∙ ap (map is_closing_byte) (take-replicate n 60 0 (surveyed_fits site).few_links) ∙ map_replicate n
 
   pub opens_ok : (o : Result Player BoardFault) → Begins site (row_setting site row.bytes) row.closed o → is_ok o ≡ true
   opens_ok (Ok p) b = refl

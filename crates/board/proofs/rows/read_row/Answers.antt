@@ -10,5 +10,5 @@ loop-at-preserved c = read_more c.args.row.now c.loop-at.closed.marked c.put.new
 
 pub returns : goal.returns
 returns c =
-    let e : c.loop-at.at ≡ length c.args.row.now = omega (arith, c.loop-at-test.false, c.loop-at.auto.at_end) in
+    let e : c.loop-at.at ≡ length c.args.row.now = omega (arith, c.loop-at-test.false, c.loop-at.auto.at-end) in
     ap (λ n. take n c.loop-at.closed.marked) (sym e) ∙ c.loop-at.invariant ∙ ap setting_in (take_all c.loop-at.at c.args.row.now c.loop-at-test.false)

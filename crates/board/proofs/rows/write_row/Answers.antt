@@ -10,5 +10,5 @@ loop-at-preserved c = write_more c.args.closed.now.marked c.loop-at.row c.loop-a
 
 pub returns : goal.returns
 returns c =
-    let e : c.loop-at.at ≡ length c.args.row.now = omega (arith, c.loop-at-test.false, c.loop-at.auto.at_end) in
+    let e : c.loop-at.at ≡ length c.args.row.now = omega (arith, c.loop-at-test.false, c.loop-at.auto.at-end) in
     sym (take_all c.loop-at.at c.loop-at.row (omega (arith, c.loop-at-test.false, c.loop-at.auto.row))) ∙ c.loop-at.invariant ∙ ap (λ n. row_of (take n c.args.closed.now.marked)) e

@@ -4,14 +4,14 @@ use Rattle.survey.specs.Answers.{net_of}
 use Rattle.flood.specs.Marked.{row_in}
 use Rattle.board.proofs.Held.{row_length}
 use Rattle.board.proofs.settings.are_in_service.Goals as goal
-use Rattle.board.proofs.settings.are_in_service.Goals.{else-has_closed-via-then-has-closed+else-not-is_in_service, else-has_closed-via-else-has_closed}
+use Rattle.board.proofs.settings.are_in_service.Goals.{else-has_closed-via-then-has_closed+else-not-is_in_service, else-has_closed-via-else-has_closed}
 
 pub loop-link-init : goal.loop-link-init
 loop-link-init c k h d = absurd (omega (arith, (closed_range _ k d).0))
 
 pub loop-link-preserved : goal.loop-link-preserved
 loop-link-preserved c = below_more _ _ c.loop-link.invariant (elim c.else-has_closed.branch [
-  | else-has_closed-via-then-has-closed+else-not-is_in_service w ↦ λ _. w.if-not-is_in_service.ensures.0 refl
+  | else-has_closed-via-then-has_closed+else-not-is_in_service w ↦ λ _. w.if-not-is_in_service.ensures.0 refl
   | else-has_closed-via-else-has_closed w ↦ λ d. absurd (not_both d (sym w.if-has_closed.ensures))
 ])
 

@@ -8,8 +8,8 @@ use Rattle.board.proofs.Held.{row_length, count_more, count_few}
 use Rattle.board.proofs.settings.count_closed.Goals as goal
 use Rattle.board.proofs.settings.count_closed.Goals.{then-has_closed, else-has_closed}
 
-pub overflow-add-count : goal.overflow-add-count
-overflow-add-count c =
+pub overflow_add-count : goal.overflow_add-count
+overflow_add-count c =
     let T = row_in (net_of c.args.site.now) c.args.closed.now in
     omega (arith, c.loop-done.invariant, sum_by-take-le (λ b. cond b 1 0) T c.loop-done.done, count_few c.args.site.now c.args.closed.now)
 

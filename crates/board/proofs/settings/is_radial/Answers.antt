@@ -2,5 +2,5 @@ use Rattle.std.proofs.Common.{arith}
 use Rattle.board.proofs.Held.{count_few}
 use Rattle.board.proofs.settings.is_radial.Goals as goal
 
-pub overflow-add-count_closed : goal.overflow-add-count_closed
-overflow-add-count_closed c = omega (arith, c.count_closed.ensures, count_few c.args.site.now c.args.closed.now)
+pub overflow_add-count_closed : goal.overflow_add-count_closed
+overflow_add-count_closed c = omega (arith, c.count_closed.ensures, count_few c.args.site.now c.args.closed.now)

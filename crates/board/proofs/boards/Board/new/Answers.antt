@@ -2,4 +2,4 @@ use Rattle.std.proofs.Common.{refl}
 use Rattle.board.proofs.boards.Board.new.Goals as goal
 
 pub invariant_of-result : goal.invariant_of-result
-invariant_of-result c = ∣ c.if-not-is_radial.ensures.0 refl ∣₁
+invariant_of-result c = record { radial = ∣ c.if-not-is_radial.ensures.0 refl ∣₁ }

@@ -9,7 +9,7 @@ pub invariant_of-result : goal.invariant_of-result
 invariant_of-result c =
     let s = c.args.self in
     let e = row_put (looped_net s) s.closed c.put.new.self c.args.link false c.put.ensures in
-    ∣ subst (Radial (looped_net s)) (sym e) (on_loop_radial s c.args.link c.requires) ∣₁
+    record { radial = ∣ subst (Radial (looped_net s)) (sym e) (on_loop_radial s c.args.link c.requires) ∣₁ }
 
 pub returns : goal.returns
 returns c =

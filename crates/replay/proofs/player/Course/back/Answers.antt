@@ -16,7 +16,7 @@ unwrap-board-requires c =
 pub invariant_of-result : goal.invariant_of-result
 invariant_of-result c =
     let x : ExchangedBy c.args.self.board c.args.link_out c.args.link_in c.unwrap-board.result = MatchResult-at_ok _ _ c.unwrap-board.result c.unwrap-board.ensures c.exchange.ensures in
-    back_reversible c.args.self c.args.link_out c.args.link_in (pending_of c.take_back.new.self) c.if-not-take_back.ensures c.unwrap-board.result x
+    record { reversible = back_reversible c.args.self c.args.link_out c.args.link_in (pending_of c.take_back.new.self) c.if-not-take_back.ensures c.unwrap-board.result x }
 
 pub returns : goal.returns
 returns c =

@@ -5,7 +5,7 @@ use Rattle.replay.proofs.Begun.{course_begun}
 use Rattle.replay.proofs.player.starting.begin.Goals as goal
 
 pub invariant_of-result-2 : goal.invariant_of-result-2
-invariant_of-result-2 c = (∣ subst (CanReverse (board_net c.in_ok-board.board) (setting_of c.in_ok-board.board)) (sym c.new-2.ensures) tt ∣₁, tt)
+invariant_of-result-2 c = record { reversible = ∣ subst (CanReverse (board_net c.in_ok-board.board) (setting_of c.in_ok-board.board)) (sym c.new-2.ensures) tt ∣₁ }
 
 pub returns : goal.returns
 returns c =

@@ -5,7 +5,7 @@ use Rattle.walk.specs.Calls.{left_after, word_of}
 use Rattle.walk.specs.Walks.{net_of_walk, handed_by}
 use Rattle.walk.proofs.Answered.{fold_more, first_coming, none_left, ended}
 use Rattle.walk.proofs.state.Walk.advance.Goals as goal
-use Rattle.walk.proofs.state.Walk.advance.Goals.{else-loop-count-test, then-loop-count-test+in-default, then-loop-count-test+in-Some+then-not-offer}
+use Rattle.walk.proofs.state.Walk.advance.Goals.{else-loop-count-test, then-loop-count-test+in_default, then-loop-count-test+in-Some+then-not-offer}
 
 pub loop-count-preserved : goal.loop-count-preserved
 loop-count-preserved g c =
@@ -38,7 +38,7 @@ returns g c =
         | else-loop-count-test way ↦
             all (sum c.loop-count-test.collector) (spare c.loop-count-test.collector) (record { count = c.loop-count.count; word = c.word-word.result })
             inv.1 (ap sum way.collector-is ∙ inv.2) (omega (arith, inv.3, ap spare way.collector-is)) inv.4 within word (inl way.loop-count-test.false)
-        | then-loop-count-test+in-default way ↦
+        | then-loop-count-test+in_default way ↦
             all (sum c.loop-count-test.collector) (spare c.loop-count-test.collector) (record { count = c.loop-count.count; word = c.word-word.result })
             inv.1 (ap sum way.collector-is ∙ inv.2) (omega (arith, inv.3, ap spare way.collector-is)) inv.4 within word
             (inr (inl (ap (λ net. left_after net (handed_by v)) (sym inv.0) ∙ none_left v way.in_default.ensures)))

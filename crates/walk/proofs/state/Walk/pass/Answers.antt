@@ -7,13 +7,13 @@ use Rattle.walk.specs.Cursors.{net_at}
 use Rattle.walk.proofs.Passed.{first_left, reached_more, told_more, settings_fit, exchanges_fit}
 use Rattle.walk.proofs.state.Walk.pass.Goals as goal
 
-pub overflow-add-self : goal.overflow-add-self
-overflow-add-self c =
+pub overflow_add-self : goal.overflow_add-self
+overflow_add-self c =
     let w = c.args.self.now in
     omega (arith, settings_fit w.cursor w.exchanges (said_by c.args.exchange) c.requires, w.counted, c.settings_told.ensures)
 
-pub overflow-add-self-2 : goal.overflow-add-self-2
-overflow-add-self-2 c =
+pub overflow_add-self-2 : goal.overflow_add-self-2
+overflow_add-self-2 c =
     let w = c.args.self.now in
     omega (arith, exchanges_fit w.cursor w.exchanges (said_by c.args.exchange) c.requires)
 
