@@ -17,7 +17,7 @@ use walk::{Advance, Look, Walk};
 
 // Surveys the net of a source, makes the calls on a new walk, one after another, and leaves in each what it was answered.
 pub fn run<S: NetSource, C: Collector>(source: &S, calls: &mut [Call<C>]) -> Result<Surveyed, Fault>
-    ensures { Runs sum spare rule (S.meaning source.now) result calls.old calls.new }
+    ensures { Runs C.sum C.spare C.rule (S.meaning source.now) result calls.old calls.new }
 {
     let site = survey(source)?;
     make_all(&site, calls);
@@ -26,7 +26,7 @@ pub fn run<S: NetSource, C: Collector>(source: &S, calls: &mut [Call<C>]) -> Res
 
 // Makes the calls on a new walk of a site.
 fn make_all<C: Collector>(site: &Surveyed, calls: &mut [Call<C>])
-    ensures { (net : Net) → net_of site.now ≡ net → Lawful sum spare rule net calls.old calls.new }
+    ensures { (net : Net) → net_of site.now ≡ net → Lawful C.sum C.spare C.rule net calls.old calls.new }
 {
     let mut walk = Walk::new(site);
     for call in calls.iter_mut() {
@@ -38,7 +38,7 @@ fn make_all<C: Collector>(site: &Surveyed, calls: &mut [Call<C>])
 fn make<C: Collector>(walk: &mut Walk, call: &mut Call<C>)
     ensures net { net_of_walk walk.new ≡ net_of_walk walk.old }
     ensures on { handed_by walk.old ≤ handed_by walk.new }
-    ensures answered { Answered sum spare rule (net_of_walk walk.old) (handed_on (net_of_walk walk.old) (handed_by walk.old)) call.old call.new (take (handed_by walk.new - handed_by walk.old) (drop (handed_by walk.old) (listing (net_of_walk walk.old)))) }
+    ensures answered { Answered C.sum C.spare C.rule (net_of_walk walk.old) (handed_on (net_of_walk walk.old) (handed_by walk.old)) call.old call.new (take (handed_by walk.new - handed_by walk.old) (drop (handed_by walk.old) (listing (net_of_walk walk.old)))) }
 {
     match call {
         Call::Advance {
@@ -54,7 +54,7 @@ fn make<C: Collector>(walk: &mut Walk, call: &mut Call<C>)
 // Advances a walk; there is always an answer.
 fn hand_on<C: Collector>(walk: &mut Walk, allowance: u64, collector: &mut C) -> Option<Advance>
     ensures net { net_of_walk walk.new ≡ net_of_walk walk.old }
-    ensures advanced { MatchOption result ⊥ (λ a. Advances rule (net_of_walk walk.old) (handed_by walk.old) (handed_by walk.new) allowance (sum collector.old) (spare collector.old) (sum collector.new) (spare collector.new) a) }
+    ensures advanced { MatchOption result ⊥ (λ a. Advances C.rule (net_of_walk walk.old) (handed_by walk.old) (handed_by walk.new) allowance (C.sum collector.old) (C.spare collector.old) (C.sum collector.new) (C.spare collector.new) a) }
 {
     Some(walk.advance(allowance, collector))
 }

@@ -42,7 +42,7 @@ impl Walk {
     // Hands on the listing's next exchanges: at most the allowance, and no more than the collector takes.
     pub fn advance<C: Collector>(&mut self, allowance: u64, collector: &mut C) -> Advance
         ensures net { net_of_walk self.new ≡ net_of_walk self.old }
-        ensures advanced { Advances rule (net_of_walk self.old) (handed_by self.old) (handed_by self.new) allowance (sum collector.old) (spare collector.old) (sum collector.new) (spare collector.new) result }
+        ensures advanced { Advances C.rule (net_of_walk self.old) (handed_by self.old) (handed_by self.new) allowance (C.sum collector.old) (C.spare collector.old) (C.sum collector.new) (C.spare collector.new) result }
     {
         let spare = collector.spare();
         let mut count = 0;
@@ -100,7 +100,7 @@ impl Walk {
 
 // Offers an exchange to a collector; whether it was taken.
 fn offer<C: Collector>(collector: &mut C, exchange: Exchange) -> bool
-    ensures { Accepts rule (sum collector.old) (spare collector.old) (said_by exchange) result (sum collector.new) (spare collector.new) }
+    ensures { Accepts C.rule (C.sum collector.old) (C.spare collector.old) (said_by exchange) result (C.sum collector.new) (C.spare collector.new) }
 {
     collector.take(exchange).is_ok()
 }

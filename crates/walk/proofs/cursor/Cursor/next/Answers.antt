@@ -13,4 +13,4 @@ exchange-requires c =
 
 pub exchange-requires-in-None : goal.exchange-requires-in-None
 exchange-requires-in-None c =
-    last_exchange c.args.self.now.search (c.in_ok-moved.moved.leaving, c.in_ok-moved.moved.entering) (sym c.in_ok-moved.ensures)
+    last_exchange c.args.self.now.search (c.in_ok-moved-in-None.moved.leaving, c.in_ok-moved-in-None.moved.entering) (sym c.in_ok-moved-in-None.ensures)
