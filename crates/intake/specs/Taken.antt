@@ -1,5 +1,5 @@
 -- What becomes of a text: it is read, and the net that it says is surveyed. Assumes nothing.
-use Rattle.std.specs.Prelude.{◌≡◌, ℕ, ◌≤◌, ◌⊎◌, List, length, Err, Option, Result}
+use Rattle.std.specs.Prelude.{◌≡◌, ℕ, ◌≤◌, ◌⊎◌, List, length, Err, Result}
 use Rattle.faults.specs.declared.Fault.{Fault}
 use Rattle.net.specs.Nets.{Net}
 use Rattle.text.specs.Form.{InForm}

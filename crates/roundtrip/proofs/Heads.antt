@@ -1,9 +1,9 @@
 -- The start links in a table, and the head that is written of them.
-use Rattle.std.proofs.Common.{◌≡◌, ℕ, zero, suc, ◌+◌, ◌-◌, ◌<◌, ◌≤◌, Bool, true, false, List, [], ◌∷◌, ◌++◌, length, get_or, take, set, is_ok, Ok, Err, Result, sym, refl, ap, ◌∙◌, subst, ap₂, arith}
+use Rattle.std.proofs.Common.{◌≡◌, ℕ, zero, suc, ◌+◌, ◌-◌, ◌≤◌, Bool, true, false, List, [], ◌∷◌, ◌++◌, length, take, set, is_ok, Ok, Err, Result, sym, refl, ap, ◌∙◌, subst, ap₂, arith}
 use native.Mathlib.Decide.{dec_le}
-use Rattle.std.proofs.lemmas.List.{take_all, take_more, take_more_set}
+use Rattle.std.proofs.lemmas.List.{take_more, take_more_set}
 use Rattle.faults.specs.declared.CollectorFault.{CollectorFault}
-use Rattle.net.specs.Nets.{nth, Net}
+use Rattle.net.specs.Nets.{Net}
 use Rattle.net.specs.Limits.{WithinLimits}
 use Rattle.net.proofs.Numbered.{nth_past}
 use Rattle.net.proofs.Links.{joins_range}

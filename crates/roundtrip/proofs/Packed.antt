@@ -1,25 +1,24 @@
 -- What a packer has still to write, after each call.
-use Rattle.std.proofs.Common.{◌≡◌, ℕ, suc, ◌+◌, ◌-◌, ◌/◌, ◌^◌, ◌<◌, ◌≤◌, min, Bool, true, false, cond, eqb, leb, List, [], ◌∷◌, ◌++◌, map, length, take, drop, is_ok, Ok, Err, fold, Result, sym, refl, ap, ◌∙◌, subst, ap₂, append_assoc, append-nil, arith, length-append}
+use Rattle.std.proofs.Common.{◌≡◌, ℕ, ◌+◌, ◌/◌, ◌≤◌, min, true, false, cond, eqb, List, [], ◌∷◌, ◌++◌, map, length, take, drop, is_ok, Ok, Err, fold, Result, sym, refl, ap, ◌∙◌, ap₂, append_assoc, append-nil, arith, length-append}
 use mathlib.Core.List.{map-append}
 use native.Mathlib.Decide.{dec_le}
-use Rattle.std.specs.List.{flat_map}
-use Rattle.std.proofs.lemmas.Bool.{ne_eqb, eqb-true, le-leb, lt-leb, leb-true}
+use Rattle.std.proofs.lemmas.Bool.{ne_eqb, le-leb, lt-leb}
 use Rattle.std.proofs.lemmas.List.{take_all, drop_all, drop-drop, take-append-drop, length-drop}
 use Rattle.faults.specs.declared.CollectorFault.{CollectorFault}
 use Rattle.net.specs.Nets.{Net}
 use Rattle.net.proofs.Settings.{not_both}
 use Rattle.trees.specs.Listings.{Exchanged, listing, told}
 use Rattle.stream.specs.declared.writer.Writer.{Writer}
-use Rattle.stream.specs.Records.{Record, Z, record_bytes, records_bytes, record_of_exchange, exchange_bytes, end_bytes}
+use Rattle.stream.specs.Records.{Z, records_bytes, record_of_exchange, exchange_bytes, end_bytes}
 use Rattle.stream.specs.Writers.{bytes_of, left_in, written_on, Writes}
-use Rattle.walk.specs.Walks.{net_of_walk, handed_by}
+use Rattle.walk.specs.Walks.{handed_by}
 use Rattle.walk.specs.Calls.{handed_on, left_after}
 use Rattle.roundtrip.specs.declared.stage.Stage.{Stage}
 use Rattle.roundtrip.specs.declared.packer.Packer.{Packer}
 use Rattle.roundtrip.specs.Stages.{is_last}
 use Rattle.roundtrip.specs.Heads.{head_records, HeadPut}
 use Rattle.roundtrip.specs.Packs.{settings_of}
-use Rattle.roundtrip.specs.Packers.{net_packed, coming_after, coming_of, next_after, next_of, Fills}
+use Rattle.roundtrip.specs.Packers.{net_packed, coming_after, next_after, next_of, Fills}
 
 -- something is to come before the last stage
 pub none_coming : (net : Net) (stage : Stage) (n : ℕ) → is_last stage ≡ eqb (length (coming_after net stage n)) 0

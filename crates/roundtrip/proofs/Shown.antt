@@ -1,5 +1,5 @@
 -- The exchanges of the listing take a replay through it, and back to the start setting.
-use Rattle.std.proofs.Common.{◌≡◌, ℕ, zero, suc, ◌+◌, ◌<◌, ◌≤◌, List, [], ◌∷◌, ◌++◌, map, length, sym, refl, ap, ◌∙◌, subst, ap₂, inl, inr, arith, length-append}
+use Rattle.std.proofs.Common.{◌≡◌, ℕ, zero, suc, ◌+◌, ◌<◌, List, [], ◌∷◌, ◌++◌, map, length, sym, refl, subst, inl, inr, arith, length-append}
 use mathlib.Core.List.{map-append}
 use Rattle.std.specs.List.{flat_map}
 use Rattle.net.specs.Nets.{Net}
@@ -15,7 +15,7 @@ use Rattle.trees.proofs.Levels.{Level, level_below, level_child, level_back}
 use Rattle.trees.proofs.Loops.{cut_loop}
 use Rattle.trees.proofs.Events.{below}
 use Rattle.stream.specs.Records.{Record, F, B, record_of_exchange}
-use Rattle.replay.specs.Places.{Place, walking, Goes, forward, back}
+use Rattle.replay.specs.Places.{walking, Goes, forward, back}
 use Rattle.roundtrip.proofs.Throughs.{Through, through_none, through_one, through_join}
 
 abbrev recorded : List Exchanged → List Record

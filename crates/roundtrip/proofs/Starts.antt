@@ -1,10 +1,10 @@
 -- The head of the stream takes a replay to the start setting, and the whole stream to the end.
-use Rattle.std.proofs.Common.{◌≡◌, ℕ, zero, suc, ◌+◌, ◌-◌, ◌<◌, ◌≤◌, Bool, true, false, cond, eqb, ◌≢◌, List, [], ◌∷◌, ◌++◌, map, length, take, replicate, sym, refl, ap, ◌∙◌, subst, ap₂, inl, inr, append_assoc, append-nil, arith, eq-eqb}
+use Rattle.std.proofs.Common.{◌≡◌, ℕ, zero, suc, ◌+◌, ◌-◌, ◌<◌, true, false, cond, eqb, [], ◌∷◌, ◌++◌, map, length, take, replicate, sym, refl, ap, ◌∙◌, subst, inl, inr, append_assoc, append-nil, arith, eq-eqb}
 use mathlib.Core.List.{map-append}
 use Rattle.std.proofs.lemmas.List.{take_all, take_more, length-take}
 use Rattle.std.proofs.lemmas.List.Sums.{fold_push}
 use Rattle.std.proofs.lemmas.Bool.{ne_eqb}
-use Rattle.net.specs.Nets.{nth, Net}
+use Rattle.net.specs.Nets.{Net}
 use Rattle.net.specs.Settings.{Setting, Closed, closing, just_closed, Radial}
 use Rattle.net.specs.Limits.{WithinLimits}
 use Rattle.net.proofs.Numbered.{nth_first}
@@ -14,12 +14,12 @@ use Rattle.survey.proofs.Marked.{marked_only, open_everywhere}
 use Rattle.survey.proofs.Ranked.{rank_place}
 use Rattle.survey.proofs.Reached.{all_reached_full, longer}
 use Rattle.trees.specs.Rules.{start_link_of}
-use Rattle.trees.specs.Listings.{listing, told, told_after}
+use Rattle.trees.specs.Listings.{listing, told_after}
 use Rattle.trees.proofs.Ranks.{start_up, start_apart}
 use Rattle.trees.proofs.Levels.{start_level}
 use Rattle.trees.proofs.Events.{below, told_events}
-use Rattle.stream.specs.Records.{Record, N, S, Z, record_of_exchange}
-use Rattle.replay.specs.Places.{Place, unopened, starting, walking, ended, all_open, begun, Goes, opens, starts, ends, Comes, nothing, then}
+use Rattle.stream.specs.Records.{N, S, Z, record_of_exchange}
+use Rattle.replay.specs.Places.{starting, walking, ended, begun, Goes, opens, starts, ends, Comes, nothing, then}
 use Rattle.roundtrip.specs.Packs.{settings_of, stream_records}
 use Rattle.roundtrip.proofs.Shown.{show_events}
 

@@ -1,5 +1,5 @@
 -- Records that take a replay from one place to another.
-use Rattle.std.proofs.Common.{◌≡◌, List, [], ◌∷◌, ◌++◌, sym, refl, ◌∙◌, subst, append_assoc, append-nil}
+use Rattle.std.proofs.Common.{List, [], ◌∷◌, ◌++◌, sym, subst, append_assoc, append-nil}
 use Rattle.net.specs.Nets.{Net}
 use Rattle.stream.specs.Records.{Record}
 use Rattle.replay.specs.Places.{Place, Goes, Comes, then}

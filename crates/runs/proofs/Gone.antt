@@ -1,5 +1,5 @@
 -- One call more of a run, and the law of the whole run.
-use Rattle.std.proofs.Common.{◌≡◌, ℕ, zero, suc, ◌+◌, ◌-◌, ◌<◌, ◌≤◌, List, [], ◌∷◌, ◌++◌, length, get_or, take, drop, set, sym, refl, ap, ◌∙◌, subst, ap₂, zero-add, arith}
+use Rattle.std.proofs.Common.{◌≡◌, ℕ, zero, suc, ◌+◌, ◌-◌, ◌<◌, ◌≤◌, List, [], ◌∷◌, ◌++◌, length, get_or, take, drop, set, sym, refl, ap, ◌∙◌, subst, zero-add, arith}
 use Rattle.std.proofs.lemmas.List.{take_all, take_more, take_more_set, drop-drop, drop-set-lt, get_or-drop, length-drop, length-take-le}
 use Rattle.net.specs.Nets.{Net}
 use Rattle.net.specs.Limits.{WithinLimits}
@@ -8,7 +8,7 @@ use Rattle.trees.specs.Listings.{Exchanged, listing}
 use Rattle.walk.specs.Calls.{handed_on}
 use Rattle.walk.proofs.Prefixes.{told_unbroken, told_complete}
 use Rattle.runs.specs.declared.calls.Call.{Call}
-use Rattle.runs.specs.Runs.{Answered, Ran, none, then, Lawful}
+use Rattle.runs.specs.Runs.{Answered, Ran, then, Lawful}
 use Rattle.runs.proofs.Made.{stretch}
 
 take_none : {A : Type 0} (n : ℕ) → take {A = A} n [] ≡ []

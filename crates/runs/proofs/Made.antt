@@ -2,7 +2,7 @@
 use Rattle.std.proofs.Common.{◌≡◌, ℕ, ◌+◌, ◌-◌, ◌≤◌, true, List, [], ◌++◌, length, take, drop, Some, None, vec_items, fold, Option, Result, Vec, sym, refl, ap, ◌∙◌, subst, arith, length-append, eq-eqb, MatchOption}
 use Rattle.std.specs.declared.alloc.Global.{Global}
 use Rattle.std.proofs.lemmas.Bool.{eqb-true}
-use Rattle.std.proofs.lemmas.List.{take_all, length-take, length-take-le, length-drop}
+use Rattle.std.proofs.lemmas.List.{take_all, length-take-le, length-drop}
 use Rattle.faults.specs.declared.BoardFault.{BoardFault}
 use Rattle.net.specs.Nets.{Net}
 use Rattle.trees.specs.Listings.{Exchanged, listing, told}
@@ -12,7 +12,7 @@ use Rattle.walk.specs.Told.{Complete}
 use Rattle.walk.specs.Calls.{handed_on, left_after, word_of, Advances, Looks, Presents}
 use Rattle.runs.specs.declared.calls.Call.{Call}
 use Rattle.runs.specs.declared.calls.Call.TheVariants.{Advance as Advancing, Look as Looking, Present as Presenting}
-use Rattle.runs.specs.Runs.{Takes, HandsOn, Sees, Answered, advanced, looked, presented}
+use Rattle.runs.specs.Runs.{HandsOn, Sees, Answered, advanced, looked, presented}
 
 -- the exchanges from the n-th on, up to the n'-th
 abbrev pub stretch : Net → ℕ → ℕ → List Exchanged

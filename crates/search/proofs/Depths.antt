@@ -1,12 +1,11 @@
 -- A search stands at a level of the theory, and its moves keep it so.
-use Rattle.std.proofs.Common.{◌≡◌, ℕ, zero, suc, ◌+◌, ◌-◌, ◌<◌, ◌≤◌, Bool, true, false, ◌&&◌, leb, ◌⊎◌, List, [], ◌∷◌, length, sym, refl, ap, ◌∙◌, subst, inl, inr, arith}
+use Rattle.std.proofs.Common.{◌≡◌, ℕ, zero, suc, ◌+◌, ◌-◌, ◌<◌, ◌≤◌, true, ◌&&◌, leb, [], ◌∷◌, length, arith}
 use Rattle.std.proofs.lemmas.Bool.{and_parts, and_from, leb-true, le-leb}
 use Rattle.net.specs.Nets.{Net}
-use Rattle.net.specs.Settings.{Setting}
 use Rattle.net.specs.Limits.{WithinLimits}
 use Rattle.survey.specs.Surveys.{start_setting, AllReached}
 use Rattle.trees.specs.Cuts.{swapped}
-use Rattle.trees.specs.Rules.{start_link_of, IsStart, Entering}
+use Rattle.trees.specs.Rules.{start_link_of}
 use Rattle.trees.specs.Listings.{enters}
 use Rattle.trees.proofs.Levels.{Level, start_level, level_below, level_passes, passes_level, level_child, level_back}
 use Rattle.search.specs.Descents.{Descent, link_at, setting_at, descends, EntersAt}

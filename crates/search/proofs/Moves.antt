@@ -1,8 +1,7 @@
 -- The tables of a search after a move.
-use Rattle.std.proofs.Common.{◌≡◌, ℕ, zero, suc, ◌+◌, ◌-◌, ◌<◌, ◌≤◌, Bool, true, false, ◌≢◌, List, [], ◌∷◌, map, length, get_or, take, set, sym, refl, ap, ◌∙◌, subst, ap₂, arith}
+use Rattle.std.proofs.Common.{◌≡◌, ℕ, zero, suc, ◌+◌, ◌-◌, ◌<◌, ◌≤◌, Bool, true, false, List, [], ◌∷◌, map, length, get_or, take, set, sym, ap, ◌∙◌, subst, ap₂, arith}
 use Rattle.std.proofs.lemmas.List.{get_or-map, length-map, map-set}
 use Rattle.net.specs.Nets.{put, Net}
-use Rattle.net.specs.Settings.{Setting}
 use Rattle.net.specs.Limits.{WithinLimits}
 use Rattle.net.proofs.Numbered.{put_first}
 use Rattle.survey.specs.Surveys.{AllReached}
@@ -11,9 +10,9 @@ use Rattle.trees.specs.Rules.{start_link_of}
 use Rattle.trees.specs.Listings.{enters}
 use Rattle.flood.specs.declared.marks.Marks.{Marks}
 use Rattle.search.specs.declared.state.Frame.{Frame}
-use Rattle.search.specs.Descents.{Descent, link_at, setting_at, descends}
+use Rattle.search.specs.Descents.{link_at, setting_at, descends}
 use Rattle.flood.specs.Marked.{row_in, fed_in}
-use Rattle.search.specs.Frames.{stacked, ranks_of, descent_in, feds_in, fed_without, feds_along, above0}
+use Rattle.search.specs.Frames.{stacked, ranks_of, descent_in, feds_in, fed_without, feds_along}
 use Rattle.search.proofs.Stacks.{stacked_push, stacked_length}
 use Rattle.search.proofs.Depths.{descends_parts, descends_from, descent_length, descent_back}
 

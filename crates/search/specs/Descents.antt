@@ -1,5 +1,5 @@
 -- Where a search stands: a setting, told by the way down to it from the start setting, and a ceiling of rank. Assumes nothing.
-use Rattle.std.specs.Prelude.{◌≡◌, ℕ, zero, suc, ◌-◌, ◌<◌, Bool, true, false, ◌&&◌, List, [], ◌∷◌, Some, None, Option, nat_le}
+use Rattle.std.specs.Prelude.{◌≡◌, ℕ, suc, ◌<◌, Bool, true, false, ◌&&◌, List, [], ◌∷◌, Some, None, Option, nat_le}
 use Rattle.net.specs.Nets.{nth, Net}
 use Rattle.net.specs.Settings.{Setting}
 use Rattle.survey.specs.Surveys.{start_setting, link_order}

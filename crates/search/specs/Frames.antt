@@ -1,10 +1,9 @@
 -- What the tables of a search hold: exchanges, and the bars that were fed. Assumes nothing.
-use Rattle.std.specs.Prelude.{ℕ, zero, suc, ◌-◌, Bool, List, [], ◌∷◌, map, length, take, slice_index_or}
+use Rattle.std.specs.Prelude.{ℕ, zero, suc, ◌-◌, Bool, List, [], ◌∷◌, map, take, slice_index_or}
 use Rattle.std.specs.List.{range_with_len}
 use Rattle.net.specs.Nets.{Net}
 use Rattle.net.specs.Settings.{Setting, opening}
 use Rattle.survey.specs.Surveys.{start_setting}
-use Rattle.survey.specs.Answers.{net_of}
 use Rattle.trees.specs.Rules.{start_link_of}
 use Rattle.trees.specs.Listings.{fed}
 use Rattle.flood.specs.declared.marks.Marks.{Marks}

@@ -1,5 +1,5 @@
 -- Where a line ends.
-use Rattle.std.proofs.Common.{◌≡◌, ℕ, ◌≢◌, ◌⊎◌, List, [], ◌∷◌, ◌++◌, Some, None, codes, decimal, Option, sym, refl, ap, ◌∙◌, inl, inr, append_assoc, arith}
+use Rattle.std.proofs.Common.{◌≡◌, ℕ, ◌≢◌, List, [], ◌∷◌, ◌++◌, Some, None, codes, decimal, Option, sym, ap, ◌∙◌, inl, append_assoc, arith}
 use Rattle.text.specs.Form.{InText, LinkInText, words_of_bars, words_of_link, line, NoBarsLine, NoLinkLine}
 use Rattle.text.specs.Cuts.{Free}
 use Rattle.text.proofs.Cut.{free_append, not_free, free_decimal, same_cut}

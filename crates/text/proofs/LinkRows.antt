@@ -1,5 +1,5 @@
 -- The row that is read from the lines of links, line by line.
-use Rattle.std.proofs.Common.{◌≡◌, ℕ, zero, suc, ◌+◌, ◌-◌, ◌*◌, ◌/◌, ◌%◌, ◌<◌, ◌≤◌, ◌≢◌, List, [], ◌∷◌, ◌++◌, length, Some, None, Err, codes, decimal, Option, sym, refl, ap, ◌∙◌, append_assoc, append-nil, arith}
+use Rattle.std.proofs.Common.{◌≡◌, ℕ, zero, suc, ◌+◌, ◌*◌, ◌%◌, ◌≤◌, ◌≢◌, List, [], ◌∷◌, ◌++◌, length, Some, None, Err, decimal, Option, sym, refl, ap, ◌∙◌, append_assoc, append-nil, arith}
 use Rattle.std.specs.List.{flat_map, AllByRecursion as All}
 use Rattle.std.proofs.lemmas.List.{length-append, nil_from_length}
 use Rattle.std.proofs.ByRecursion.{All-push}
@@ -8,9 +8,8 @@ use Rattle.faults.specs.declared.Fault.{Fault}
 use Rattle.faults.specs.declared.TextFault.{TextFault}
 use Rattle.net.specs.Sources.{pair_of, pairs}
 use Rattle.net.proofs.Pairs.{length_pairs, pairs_append}
-use Rattle.text.specs.Form.{InText, LinkInText, words_of_bars, words_of_link, line, text_of, InForm, NoLinkLine, FormEnds, BadLine}
-use Rattle.text.specs.Readings.{LinksRead, LinksEnd, LinksFault, Reads}
-use Rattle.text.proofs.LineEnds.{line_joined}
+use Rattle.text.specs.Form.{InText, LinkInText, words_of_bars, words_of_link, line, text_of, NoLinkLine}
+use Rattle.text.specs.Readings.{LinksRead, LinksFault, Reads}
 
 abbrev pub link_lines : List (Option (ℕ × ℕ)) → List ℕ
 link_lines links = flat_map (λ l. line (words_of_link l)) links

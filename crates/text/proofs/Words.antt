@@ -1,5 +1,5 @@
 -- The words that a line begins with.
-use Rattle.std.proofs.Common.{◌≡◌, ℕ, zero, suc, ◌<◌, ◌≤◌, Bool, true, false, cond, ◌&&◌, eqb, ◌≢◌, List, [], ◌∷◌, ◌++◌, length, get_or, drop, Some, None, codes, decimal, Option, sym, refl, ap, ◌∙◌, arith, MatchOption}
+use Rattle.std.proofs.Common.{◌≡◌, ℕ, ◌≤◌, false, cond, ◌&&◌, eqb, ◌≢◌, List, [], ◌∷◌, ◌++◌, length, get_or, drop, Some, None, codes, decimal, Option, refl, ap, ◌∙◌, arith, MatchOption}
 use Rattle.std.proofs.lemmas.Bool.{ne_eqb, and_left}
 use Rattle.net.specs.Sources.{pair_of}
 use Rattle.text.specs.Form.{InText, LinkInText, words_of_bars, words_of_link}

@@ -1,5 +1,5 @@
 -- Where the depth-first order is used: what is cut off lies below the leaving link, and so which links may enter.
-use Rattle.std.proofs.Common.{◌≡◌, ℕ, zero, suc, ◌+◌, ◌<◌, ◌≤◌, ◌≢◌, sym, ap, ◌∙◌, inl, inr, arith}
+use Rattle.std.proofs.Common.{◌≡◌, ℕ, zero, suc, ◌<◌, ◌≤◌, ◌≢◌, sym, ap, ◌∙◌, inl, inr, arith}
 use native.Mathlib.Decide.{dec_le}
 use Rattle.net.specs.Nets.{Net, IsBar, infeed, Joins}
 use Rattle.net.specs.Settings.{Setting, Closed, opening, here, onward, Step, Reach, Radial}

@@ -1,6 +1,6 @@
 -- The gate: the first link by which a way from the bar of rank k + 1 comes down to rank k. With it a setting is led to the start setting,
 -- link by link; so a setting that reaches every bar has one link fewer than bars or more.
-use Rattle.std.proofs.Common.{◌≡◌, ℕ, zero, suc, ◌+◌, ◌<◌, ◌≤◌, true, false, cond, ◌≢◌, ◌⊎◌, [], ◌∷◌, refl, ap, ◌∙◌, inl, inr, arith}
+use Rattle.std.proofs.Common.{◌≡◌, ℕ, zero, suc, ◌<◌, ◌≤◌, true, false, cond, ◌≢◌, ◌⊎◌, [], ◌∷◌, refl, ap, ◌∙◌, inl, inr, arith}
 use native.Mathlib.Decide.{ℕ_discrete, dec_le}
 use Rattle.std.proofs.lemmas.List.Sums.{sum_by-cons}
 use Rattle.net.specs.Nets.{nth, Net, IsBar, infeed, Joins}

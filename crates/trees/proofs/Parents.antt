@@ -1,5 +1,5 @@
 -- Every radial setting but the start has one parent, and the child rule and the parent rule say the same.
-use Rattle.std.proofs.Common.{◌≡◌, ℕ, suc, ◌+◌, ◌<◌, ◌≤◌, true, false, ◌≢◌, length, sym, ap, ◌∙◌, subst, inl, inr, arith}
+use Rattle.std.proofs.Common.{◌≡◌, ℕ, suc, ◌<◌, ◌≤◌, true, false, ◌≢◌, length, sym, ap, ◌∙◌, subst, inl, inr, arith}
 use native.Mathlib.Decide.{ℕ_discrete, dec_le}
 use Rattle.net.specs.Nets.{nth, Net, IsBar, infeed, Joins}
 use Rattle.net.specs.Settings.{Setting, Closed, opening, Way, here, onward, Step, Reach, Radial}

@@ -13,7 +13,7 @@ use Rattle.survey.specs.Surveys.{start_setting, link_order, AllReached}
 use Rattle.survey.proofs.Others.{links_ranked}
 use Rattle.trees.specs.Cuts.{swapped}
 use Rattle.trees.specs.Rules.{start_link_of, IsStart, Entering, IsChild, FirstMissing, IsParent}
-use Rattle.trees.specs.Orders.{Move, move, Chain, start, child}
+use Rattle.trees.specs.Orders.{Move, move, Chain, child}
 use Rattle.trees.specs.Listings.{entering_links}
 use Rattle.trees.proofs.Ranks.{closed_start}
 use Rattle.trees.proofs.Cores.{Holds, start_is_radial}

@@ -1,5 +1,5 @@
 -- What the calls on a walk answer.
-use Rattle.std.proofs.Common.{◌≡◌, ℕ, suc, ◌+◌, ◌-◌, ◌^◌, ◌<◌, ◌≤◌, Bool, true, false, cond, not, eqb, ◌⊎◌, List, [], ◌∷◌, map, length, get_or, take, drop, is_some, Some, None, fold, sym, refl, ap, ◌∙◌, subst, ap₂, inl, inr, arith}
+use Rattle.std.proofs.Common.{◌≡◌, ℕ, suc, ◌+◌, ◌^◌, ◌<◌, ◌≤◌, false, cond, not, eqb, ◌⊎◌, List, [], ◌∷◌, length, get_or, take, drop, is_some, Some, None, fold, sym, refl, ap, ◌∙◌, subst, ap₂, inl, inr, arith}
 use Rattle.std.proofs.lemmas.Bool.{ne_eqb, eqb-true}
 use Rattle.std.proofs.lemmas.List.{drop-drop, length-drop, length-map, get_or-map, get_or_default, same_lists}
 use Rattle.std.proofs.lemmas.List.Sums.{fold_push}
@@ -13,7 +13,7 @@ use Rattle.search.proofs.Depths.{descent_level}
 use Rattle.search.specs.States.{descent_of, ceiling_of}
 use Rattle.walk.specs.declared.answers.Advance.{Advance}
 use Rattle.walk.specs.declared.state.Walk.{Walk}
-use Rattle.walk.specs.Cursors.{net_at, reached_at, coming_at}
+use Rattle.walk.specs.Cursors.{reached_at, coming_at}
 use Rattle.walk.specs.Rests.{first}
 use Rattle.walk.specs.Calls.{left_after, word_of, Advances, row_of}
 use Rattle.walk.specs.Walks.{net_of_walk, handed_by}

@@ -1,9 +1,9 @@
 -- The entering links above a rank: the next one, and those above it.
-use Rattle.std.proofs.Common.{◌≡◌, ℕ, zero, suc, ◌+◌, ◌<◌, ◌≤◌, Bool, true, false, cond, ◌&&◌, leb, ◌⊎◌, List, [], ◌∷◌, ◌++◌, length, get_or, drop, Some, None, filter, Option, sym, refl, ap, ◌∙◌, subst, ap₂, inl, inr, append_assoc, arith}
+use Rattle.std.proofs.Common.{◌≡◌, ℕ, zero, suc, ◌<◌, ◌≤◌, Bool, true, false, leb, List, [], ◌∷◌, ◌++◌, length, get_or, drop, Some, None, filter, sym, refl, ap, ◌∙◌, subst, ap₂, inl, inr, append_assoc, arith}
 use native.Mathlib.Decide.{dec_le}
 use Rattle.std.specs.List.{flat_map}
 use Rattle.std.proofs.lemmas.Bool.{and_from, le-leb}
-use Rattle.net.specs.Nets.{nth, Net}
+use Rattle.net.specs.Nets.{Net}
 use Rattle.net.specs.Settings.{Setting}
 use Rattle.net.specs.Limits.{WithinLimits}
 use Rattle.net.proofs.Links.{joins_range}

@@ -1,5 +1,5 @@
 -- The settings told so far are a beginning of all that the listing tells: nothing is left out between them.
-use Rattle.std.proofs.Common.{◌≡◌, ℕ, ◌≤◌, ◌≢◌, ◌⊎◌, List, [], ◌∷◌, ◌++◌, length, take, drop, sym, refl, ap, ◌∙◌, subst, inl, inr, append_assoc, append-nil, arith}
+use Rattle.std.proofs.Common.{◌≡◌, ℕ, ◌≤◌, List, [], ◌∷◌, ◌++◌, length, drop, sym, refl, ap, ◌∙◌, subst, inl, inr, append_assoc}
 use Rattle.std.proofs.lemmas.List.{take-append-drop, take_all}
 use Rattle.net.specs.Nets.{Net}
 use Rattle.net.specs.Members.{Member, Rising}

@@ -1,4 +1,4 @@
-use Rattle.std.proofs.Common.{◌≡◌, ◌≤◌, false, length, take}
+use Rattle.std.proofs.Common.{◌≡◌, false, take}
 use Rattle.survey.specs.Answers.{net_of}
 use Rattle.trees.specs.Listings.{sweep}
 use Rattle.flood.specs.Marked.{row_in}

@@ -1,8 +1,7 @@
-use Rattle.std.proofs.Common.{◌≡◌, ◌≤◌, unwrap_or, sym, ap, ◌∙◌, subst, arith}
+use Rattle.std.proofs.Common.{unwrap_or, ap, ◌∙◌, arith}
 use Rattle.survey.specs.Surveys.{start_links}
 use Rattle.survey.specs.Answers.{net_of}
 use Rattle.survey.proofs.Whole.{surveyed_fits, surveyed_reached}
-use Rattle.trees.specs.Rules.{start_link_of}
 use Rattle.search.proofs.Places.{at_rank_nth}
 use Rattle.roundtrip.proofs.Heads.{start_fits}
 use Rattle.roundtrip.proofs.head.start_number.Goals as goal

@@ -1,4 +1,4 @@
-use Rattle.std.proofs.Common.{◌≤◌, [], length, get_or, sym, refl, ap, ◌∙◌, subst, arith}
+use Rattle.std.proofs.Common.{◌≤◌, [], length, get_or, sym, refl, ◌∙◌, subst, arith}
 use Rattle.survey.specs.Answers.{net_of}
 use Rattle.survey.proofs.Whole.{surveyed_fits, surveyed_reached}
 use Rattle.trees.specs.Listings.{listing}

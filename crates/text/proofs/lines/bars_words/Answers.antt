@@ -1,4 +1,4 @@
-use Rattle.std.proofs.Common.{◌≡◌, ◌-◌, ◌≤◌, ◌++◌, length, take, drop, codes, sym, ap, ◌∙◌, arith, ltb-false}
+use Rattle.std.proofs.Common.{◌-◌, ◌≤◌, ◌++◌, length, take, drop, codes, sym, ap, ◌∙◌, arith, ltb-false}
 use Rattle.std.proofs.lemmas.List.{take_rest, get_or-drop, drop-drop}
 use Rattle.text.proofs.Words.{begins_parts, bars_some}
 use Rattle.text.proofs.lines.bars_words.Goals as goal

@@ -1,6 +1,5 @@
 use Rattle.std.proofs.Common.{◌≡◌, ◌+◌, ◌-◌, ◌<◌, ◌∷◌, ◌++◌, length, take, sym, ap, ◌∙◌, ap₂, arith}
 use Rattle.std.proofs.lemmas.List.{take_rest}
-use Rattle.text.specs.Cuts.{Free}
 use Rattle.text.proofs.Cut.{free_from, free_take, cut_at}
 use Rattle.text.proofs.lines.first_line.Goals as goal
 

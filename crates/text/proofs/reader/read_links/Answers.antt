@@ -1,8 +1,8 @@
-use Rattle.std.proofs.Common.{◌≡◌, ◌+◌, [], ◌∷◌, ◌++◌, length, vec_items, vec_capacity, sym, refl, ap, ◌∙◌, append_assoc, arith}
+use Rattle.std.proofs.Common.{[], ◌∷◌, length, vec_items, vec_capacity, sym, refl, ◌∙◌, append_assoc, arith}
 use Rattle.std.proofs.lemmas.Slice.{pushed}
 use Rattle.std.proofs.lemmas.Result.{err_from_is_err_and}
 use Rattle.std.proofs.lemmas.Bool.{eqb-true, eqb-false}
-use Rattle.text.proofs.LinkRows.{Reading, reading_more, reading_all, reading_ends, rest_shorter}
+use Rattle.text.proofs.LinkRows.{reading_more, reading_all, reading_ends, rest_shorter}
 use Rattle.text.proofs.reader.read_links.Goals as goal
 
 pub returns-in_err-a : goal.returns-in_err-a

@@ -21,8 +21,10 @@ returns-then-is_deep c =
     deep c.if-link_out-link_in.false (leb-true (board_net s.board).bars (length (pending_of s.pending) + 1) (sym c.if-is_deep.ensures))
 
 pub invariant_of-result : goal.invariant_of-result
-invariant_of-result c = record { reversible = ∥∥₁_map c.args.self.reversible (λ can. subst (CanReverse (board_net c.in-Ok.board) (setting_of c.in-Ok.board)) (sym c.push.ensures)
-      (forward_reversible c.args.self.board c.in-Ok.board c.args.link_out c.args.link_in c.if-link_out-link_in.false c.in-Ok.ensures (pending_of c.args.self.pending) can)) }
+invariant_of-result c = record {
+  reversible = ∥∥₁_map c.args.self.reversible (λ can. subst (CanReverse (board_net c.in-Ok.board) (setting_of c.in-Ok.board)) (sym c.push.ensures)
+      (forward_reversible c.args.self.board c.in-Ok.board c.args.link_out c.args.link_in c.if-link_out-link_in.false c.in-Ok.ensures (pending_of c.args.self.pending) can));
+}
 
 pub returns-in-Ok : goal.returns-in-Ok
 returns-in-Ok c =

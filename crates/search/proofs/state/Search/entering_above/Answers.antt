@@ -1,4 +1,4 @@
-use Rattle.std.proofs.Common.{◌≡◌, ◌+◌, ◌<◌, ◌≤◌, subst, arith}
+use Rattle.std.proofs.Common.{◌≡◌, ◌+◌, subst, arith}
 use native.Mathlib.Decide.{dec_le}
 use Rattle.survey.proofs.Whole.{surveyed_fits, surveyed_reached}
 use Rattle.search.specs.Descents.{EntersAt}

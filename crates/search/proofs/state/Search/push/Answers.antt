@@ -1,11 +1,10 @@
-use Rattle.std.proofs.Common.{◌≡◌, suc, ◌+◌, ◌-◌, ◌<◌, true, ◌∷◌, length, set, sym, refl, ap, ◌∙◌, subst, ap₂, arith}
+use Rattle.std.proofs.Common.{◌+◌, ◌-◌, ◌<◌, length, set, refl, ap, ◌∙◌, ap₂, arith}
 use Rattle.std.proofs.lemmas.List.{length-set}
 use Rattle.survey.proofs.Whole.{surveyed_fits, surveyed_reached}
 use Rattle.trees.specs.Cuts.{swapped}
 use Rattle.search.specs.declared.state.Frame.{Frame}
-use Rattle.search.specs.Descents.{link_at, setting_at, descends}
-use Rattle.search.specs.Frames.{ranks_of, descent_in, fed_without, above0}
-use Rattle.search.specs.States.{net_in, descent_of, setting_of}
+use Rattle.search.specs.Frames.{fed_without, above0}
+use Rattle.search.specs.States.{net_in, descent_of}
 use Rattle.search.proofs.Depths.{enters_test}
 use Rattle.search.proofs.Held.{held_above0}
 use Rattle.search.proofs.Moves.{descent_shallow, descent_push, push_shown, push_down, push_along}

@@ -8,9 +8,13 @@ use Rattle.tally.proofs.counts.Tally.switch.Goals as goal
 
 pub invariant_of-self : goal.invariant_of-self
 invariant_of-self c =
-    let t = c.args.self.now in record { long = length-set t.table _ c.switched.result ∙ t.long; few = t.few; counted = ap (counts_to (t.taken + 1))
-              (record_switched t.table c.args.link c.args.closed c.switched.result _ c.requires.0 (omega (arith, c.requires.1, t.long)) c.switched.ensures)
-              ∙ counts_to_switched (t.taken + 1) (counts_of t) c.args.link c.args.closed t.counted }
+    let t = c.args.self.now in record {
+      long = length-set t.table _ c.switched.result ∙ t.long;
+      few = t.few;
+      counted = ap (counts_to (t.taken + 1))
+          (record_switched t.table c.args.link c.args.closed c.switched.result _ c.requires.0 (omega (arith, c.requires.1, t.long)) c.switched.ensures)
+          ∙ counts_to_switched (t.taken + 1) (counts_of t) c.args.link c.args.closed t.counted;
+    }
 
 pub returns : goal.returns
 returns c =

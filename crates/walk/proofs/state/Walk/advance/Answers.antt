@@ -1,4 +1,4 @@
-use Rattle.std.proofs.Common.{◌≡◌, ◌+◌, ◌≤◌, length, take, drop, fold, sym, ap, ◌∙◌, subst, ap₂, inl, inr, arith}
+use Rattle.std.proofs.Common.{◌+◌, ◌≤◌, length, sym, ap, ◌∙◌, subst, ap₂, inl, inr, arith}
 use Rattle.trees.specs.Listings.{listing}
 use Rattle.collectors.specs.Exchanges.{said_by}
 use Rattle.walk.specs.Calls.{left_after, word_of}

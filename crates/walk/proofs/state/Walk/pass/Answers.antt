@@ -1,4 +1,4 @@
-use Rattle.std.proofs.Common.{◌+◌, ◌≤◌, cond, length, take, drop, sym, ap, ◌∙◌, subst, ap₂, arith}
+use Rattle.std.proofs.Common.{◌+◌, ◌≤◌, length, take, drop, sym, ap, ◌∙◌, subst, ap₂, arith}
 use Rattle.std.proofs.lemmas.List.{drop-drop}
 use Rattle.survey.specs.Surveys.{start_setting}
 use Rattle.trees.specs.Listings.{listing, reached_by, told}
@@ -23,5 +23,10 @@ invariant_of-self c =
     let net = net_at w.cursor in
     let n = w.exchanges in
     let x = said_by c.args.exchange in
-    let same = c.step.ensures.net in record { within = subst (λ m. n + 1 ≤ length (listing m)) (sym same) (omega (arith, (first_left (listing net) n x c.requires).within)); coming = c.step.ensures.coming ∙ ap (drop 1) w.coming ∙ drop-drop 1 n (listing net) ∙ ap (λ m. drop (n + 1) (listing m)) (sym same); reached = c.step.ensures.setting ∙ ap₂ (λ T xs. reached_by T (take 1 xs)) w.reached w.coming ∙ reached_more net n x c.requires (start_setting net)
-              ∙ ap (λ m. reached_by (start_setting m) (take (n + 1) (listing m))) (sym same); counted = ap₂ (λ a b. a + b) w.counted c.settings_told.ensures ∙ sym (told_more net n x c.requires) ∙ ap (λ m. length (told m (take (n + 1) (listing m)))) (sym same) }
+    let same = c.step.ensures.net in record {
+      within = subst (λ m. n + 1 ≤ length (listing m)) (sym same) (omega (arith, (first_left (listing net) n x c.requires).within));
+      coming = c.step.ensures.coming ∙ ap (drop 1) w.coming ∙ drop-drop 1 n (listing net) ∙ ap (λ m. drop (n + 1) (listing m)) (sym same);
+      reached = c.step.ensures.setting ∙ ap₂ (λ T xs. reached_by T (take 1 xs)) w.reached w.coming ∙ reached_more net n x c.requires (start_setting net)
+          ∙ ap (λ m. reached_by (start_setting m) (take (n + 1) (listing m))) (sym same);
+      counted = ap₂ (λ a b. a + b) w.counted c.settings_told.ensures ∙ sym (told_more net n x c.requires) ∙ ap (λ m. length (told m (take (n + 1) (listing m)))) (sym same);
+    }
