@@ -1,20 +1,19 @@
 // What the programs share: a site read from standard input, and a refusal printed.
 #![tactic(auto)]
 
-ghost use Rattle.std.specs.Prelude.{◌≡◌, false, is_ok, IfOk};
+ghost use Rattle.std.specs.Prelude.{◌≡◌, IfOk, IfSome};
 ghost use Rattle.net.specs.Settings.{Setting, Radial};
 ghost use Rattle.survey.specs.Answers.{net_of};
 
-use anyhow::anyhow;
 use faults::Fault;
 use intake::intake;
 use std::io::Read;
 use survey::Surveyed;
 use text::{MOST_BYTES, MOST_NUMBERS};
 
-// Reads a site from standard input. One that is handed on has a radial setting; another is refused on standard output.
-pub fn read_site(rt: &HostRuntime) -> anyhow::Result<Surveyed>
-    ensures { IfOk result (λ site. (T : Setting) × Radial (net_of site) T) }
+// Reads a site from standard input. One that is handed on has a radial setting; another is refused on standard output, and there is none.
+pub fn read_site(rt: &HostRuntime) -> anyhow::Result<Option<Surveyed>>
+    ensures { IfOk result (λ found. IfSome found (λ site. (T : Setting) × Radial (net_of site) T)) }
 {
     let mut bytes = Vec::new(rt.alloc());
     rt.stdin()
@@ -22,18 +21,18 @@ pub fn read_site(rt: &HostRuntime) -> anyhow::Result<Surveyed>
         .read_to_end(&mut bytes)?;
     let row = Vec::with_capacity(rt.alloc(), MOST_NUMBERS)?;
     match intake(bytes.as_slice(), row) {
-        Ok(site) => Ok(site),
+        Ok(site) => Ok(Some(site)),
         Err(fault) => refuse(rt, fault),
     }
 }
 
-// Prints a refusal on standard output, or want of memory on standard error, and answers an error.
-fn refuse(rt: &HostRuntime, fault: Fault) -> anyhow::Result<Surveyed>
-    ensures { is_ok result ≡ false }
+// Prints a refusal on standard output, or want of memory on standard error; there is no site then.
+fn refuse(rt: &HostRuntime, fault: Fault) -> anyhow::Result<Option<Surveyed>>
+    ensures { IfOk result (λ found. found ≡ None) }
 {
     match fault.refusal() {
         Some(refusal) => rt.println(refusal)?,
         None => rt.eprintln("out of memory")?,
     }
-    Err(anyhow!("refused"))
+    Ok(None)
 }

@@ -1,15 +1,15 @@
 // Reads a net from standard input and says what was read and found.
 #![tactic(auto)]
 
-use anyhow::anyhow;
 use faults::Fault;
 use intake::intake;
 use net::NetSource;
 use std::io::Read;
+use std::process::ExitCode;
 use survey::Surveyed;
 use text::{MOST_BYTES, MOST_NUMBERS};
 
-fn main(rt: HostRuntime) -> anyhow::Result<()> {
+fn main(rt: HostRuntime) -> anyhow::Result<ExitCode> {
     let mut bytes = Vec::new(rt.alloc());
     rt.stdin()
         .take(MOST_BYTES as u64 + 1)
@@ -21,17 +21,17 @@ fn main(rt: HostRuntime) -> anyhow::Result<()> {
     }
 }
 
-// Prints the refusal, and ends with an error.
-fn refuse(rt: &(impl Print + Eprint), fault: Fault) -> anyhow::Result<()> {
+// Prints the refusal, and ends with status 1.
+fn refuse(rt: &(impl Print + Eprint), fault: Fault) -> anyhow::Result<ExitCode> {
     match fault.refusal() {
         Some(refusal) => rt.println(refusal)?,
         None => rt.eprintln("out of memory")?,
     }
-    Err(anyhow!("refused"))
+    Ok(ExitCode::FAILURE)
 }
 
 // Prints the surveyed net in words.
-fn describe(rt: &impl Print, site: &Surveyed) -> anyhow::Result<()> {
+fn describe(rt: &impl Print, site: &Surveyed) -> anyhow::Result<ExitCode> {
     let bars = site.bars();
     println!(rt; "bars: {bars}")?;
     print_service(rt, site, "links in service:", true)?;
@@ -43,7 +43,8 @@ fn describe(rt: &impl Print, site: &Surveyed) -> anyhow::Result<()> {
         }
     }
     println!(rt)?;
-    print_ranks(rt, site)
+    print_ranks(rt, site)?;
+    Ok(ExitCode::SUCCESS)
 }
 
 // Prints the links that are in service, or those that are not.

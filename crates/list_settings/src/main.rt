@@ -6,19 +6,23 @@ use console::read_site;
 use faults::CollectorFault;
 use lines::Lines;
 use std::io::Write;
+use std::process::ExitCode;
 use walk::{Walk, Word};
 
 // The bytes that are printed at a time.
 const BUFFER: usize = 65536;
 
-fn main(rt: HostRuntime) -> anyhow::Result<()> {
-    let site = read_site(&rt)?;
+fn main(rt: HostRuntime) -> anyhow::Result<ExitCode> {
+    let Some(site) = read_site(&rt)? else {
+        return Ok(ExitCode::FAILURE);
+    };
     let mut buffer = vec![in rt.alloc(); 0u8; BUFFER]?;
     let mut lines = Lines::new(&site, buffer.as_mut_slice());
     let mut walk = Walk::new(&site);
     print(&rt, lines.head(), &mut lines)?;
     print_listing(&rt, &mut walk, &mut lines)?;
-    print(&rt, lines.total(), &mut lines)
+    print(&rt, lines.total(), &mut lines)?;
+    Ok(ExitCode::SUCCESS)
 }
 
 // Prints a line for each exchange that tells a setting, a buffer at a time.

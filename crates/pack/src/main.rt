@@ -4,13 +4,16 @@
 use console::read_site;
 use roundtrip::Packer;
 use std::io::Write;
+use std::process::ExitCode;
 use stream::Writer;
 
 // The bytes that are written at a time: the head, the end and any exchange fit.
 const BUFFER: usize = 65536;
 
-fn main(rt: HostRuntime) -> anyhow::Result<()> {
-    let site = read_site(&rt)?;
+fn main(rt: HostRuntime) -> anyhow::Result<ExitCode> {
+    let Some(site) = read_site(&rt)? else {
+        return Ok(ExitCode::FAILURE);
+    };
     let mut buffer = vec![in rt.alloc(); 0u8; BUFFER]?;
     let mut packer = Packer::new(&site);
     for _ in 0..u64::MAX {
@@ -21,5 +24,5 @@ fn main(rt: HostRuntime) -> anyhow::Result<()> {
             break;
         }
     }
-    Ok(())
+    Ok(ExitCode::SUCCESS)
 }

@@ -1,7 +1,7 @@
 -- The numbers of the records that a replay reads fit into their bytes.
 use Rattle.std.proofs.Common.{◌≡◌, ℕ, suc, ◌+◌, ◌^◌, ◌<◌, ◌≤◌, true, false, eqb, List, [], ◌∷◌, ◌++◌, length, sym, ap, ◌∙◌, arith}
 use native.Mathlib.Decide.{ℕ_discrete}
-use Rattle.std.specs.List.{AllByRecursion as All}
+use Rattle.std.specs.List.{AllByRecursion}
 use Rattle.std.proofs.lemmas.List.{length-replicate, length-append, flat_map_more}
 use Rattle.std.proofs.lemmas.Bool.{cond_both}
 use Rattle.net.specs.Nets.{Net, InService}
@@ -23,7 +23,7 @@ use Rattle.replay.proofs.Reached.{goes_shown}
 abbrev Small : Net → Place → Type 0
 Small net unopened = Unit {0}
 Small net (starting T count) = length T ≡ length net.links
-Small net (walking start T pending shown) = (length T ≡ length net.links) × All (λ x. (x.0 ≤ 60) × (x.1 ≤ 60)) pending
+Small net (walking start T pending shown) = (length T ≡ length net.links) × AllByRecursion (λ x. (x.0 ≤ 60) × (x.1 ≤ 60)) pending
 Small net (ended start shown) = Unit {0}
 
 small_begun : (net : Net) (T : Setting) (count : ℕ) → length T ≡ length net.links → Small net (begun net T count)

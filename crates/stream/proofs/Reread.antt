@@ -1,6 +1,6 @@
 -- What was written as records is read as these records.
 use Rattle.std.proofs.Common.{◌≡◌, ℕ, List, [], ◌∷◌, ◌++◌, Some, None, Ok, Err, Option, Result, sym, refl, ap, ◌∙◌, subst, ap₂, append_assoc}
-use Rattle.std.specs.List.{AllByRecursion as All}
+use Rattle.std.specs.List.{AllByRecursion}
 use Rattle.std.proofs.lemmas.List.{flat_map_more}
 use Rattle.faults.specs.declared.StreamFault.{StreamFault}
 use Rattle.faults.specs.declared.StreamFault.TheVariants.{UnknownKind, BodyCut}
@@ -61,7 +61,7 @@ read_more {d} {d'} bytes rs place body e m =
     ∙ ap (λ xs. xs ++ rest_of d') (flat_map_more record_bytes [] rs r)
 
 -- bytes are the bytes of at most one list of records
-pub one_stream : (rs qs : List Record) → All Fitting rs → All Fitting qs → records_bytes rs ≡ records_bytes qs → rs ≡ qs
+pub one_stream : (rs qs : List Record) → AllByRecursion Fitting rs → AllByRecursion Fitting qs → records_bytes rs ≡ records_bytes qs → rs ≡ qs
 one_stream [] [] f g e = refl
 one_stream [] (q ∷ qs) f (g, gs) e = absurd (is_whole q (records_bytes qs) (sym ((front_of_record q (records_bytes qs) g).only Nothing (sym e))))
 one_stream (r ∷ rs) [] (f, fs) g e = absurd (is_whole r (records_bytes rs) (sym ((front_of_record r (records_bytes rs) f).only Nothing e)))

@@ -2,7 +2,7 @@
 use Rattle.std.proofs.Common.{◌≡◌, ℕ, zero, suc, ◌+◌, ◌<◌, ◌≤◌, Bool, true, false, cond, ◌⊎◌, List, [], ◌∷◌, length, replicate, Some, None, fold, sym, refl, ap, ◌∙◌, inl, inr, arith}
 use native.Mathlib.Decide.{ℕ_discrete}
 use Rattle.std.specs.Option.{option_map}
-use Rattle.std.specs.List.{AllByRecursion as All}
+use Rattle.std.specs.List.{AllByRecursion}
 use Rattle.std.proofs.lemmas.List.{length-replicate}
 use Rattle.std.proofs.lemmas.List.Sums.{sum_by-cons, count_by-le-length}
 use Rattle.std.proofs.ByRecursion.{All-weaker}
@@ -50,13 +50,13 @@ pub record Unmarked (T : Setting) (x : ℕ) : Type 0 where
   pub unmarked : nth T x false ≡ false
 
 -- numbers without repeats mark as many places
-pub count_marked : (T : Setting) (ls : List ℕ) → NoRepeat ls → All (Unmarked T) ls → closed_links (marked T ls) ≡ closed_links T + length ls
+pub count_marked : (T : Setting) (ls : List ℕ) → NoRepeat ls → AllByRecursion (Unmarked T) ls → closed_links (marked T ls) ≡ closed_links T + length ls
 count_marked T [] n u = omega arith
 count_marked T (l ∷ ls) n u =
     let c = count_closing T l u.0.low u.0.high u.0.unmarked in
     omega (arith, count_marked (closing T l) ls n.1 (still ls n.0 u.1))
   where
-    still : (xs : List ℕ) → rank_in xs l ≡ None → All (Unmarked T) xs → All (Unmarked (closing T l)) xs
+    still : (xs : List ℕ) → rank_in xs l ≡ None → AllByRecursion (Unmarked T) xs → AllByRecursion (Unmarked (closing T l)) xs
     still [] r h = tt
     still (x ∷ xs) r h = elim (ℕ_discrete l x) [
       | yes p ↦ absurd (not_some_none (rank_first l x xs p) r)
@@ -97,7 +97,7 @@ all_counted (c ∷ T) f =
 abbrev pub Within : ℕ → ℕ → Type 0
 Within n x = (1 ≤ x) × (x ≤ n)
 
-module _ (n : ℕ) (ls : List ℕ) (once : NoRepeat ls) (within : All (Within n) ls) where
+module _ (n : ℕ) (ls : List ℕ) (once : NoRepeat ls) (within : AllByRecursion (Within n) ls) where
   pub row_count : closed_links (marked (replicate n false) ls) ≡ length ls
   row_count =
       let all = All-weaker (Within n) (Unmarked (replicate n false)) (λ x h. record {

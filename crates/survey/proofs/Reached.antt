@@ -1,6 +1,6 @@
 -- The tour visits just the bars that are reached, and where these are all, its start links are a radial setting.
 use Rattle.std.proofs.Common.{◌≡◌, ℕ, zero, suc, ◌<◌, ◌≤◌, false, ◌≢◌, length, replicate, Some, ◌∙◌, inl, inr, arith}
-use Rattle.std.specs.List.{AllByRecursion as All}
+use Rattle.std.specs.List.{AllByRecursion}
 use Rattle.std.proofs.lemmas.List.{length-replicate}
 use Rattle.std.proofs.ByRecursion.{All-from_get_or}
 use Rattle.net.specs.Nets.{nth, Net, IsBar, infeed, InService}
@@ -46,7 +46,7 @@ module _ (net : Net) (fit : WithinLimits net) where
   pub reached_seen : (b : ℕ) → Reach net (every_closed net) (infeed net) b → Seen (tour net) b
   reached_seen b w = way_keeps (Seen (tour net)) (λ x y r s. all_done net fit x s r.over y r.joins) w (toured net fit).standing.at
 
-  bars_within : All (Within net.bars) (bar_order net)
+  bars_within : AllByRecursion (Within net.bars) (bar_order net)
   bars_within = All-from_get_or (Within net.bars) (bar_order net) 0 (λ i h. grown.bars (suc i) (omega arith) (omega arith))
 
   -- all bars are reached exactly when there are as many ranks as bars
@@ -80,7 +80,7 @@ module _ (net : Net) (fit : WithinLimits net) where
   starts_once = norepeat_from (start_links net) starts_apart
 
   -- start links have numbers of the net
-  pub starts_within : All (Within (length net.links)) (start_links net)
+  pub starts_within : AllByRecursion (Within (length net.links)) (start_links net)
   starts_within = All-from_get_or (Within (length net.links)) (start_links net) 0
       (λ i h. let (_, _, _, _, jn) = grown.links (suc i) (omega arith) (omega arith) in joins_range net jn)
 

@@ -1,7 +1,7 @@
 -- The tables of a ranking: its numbers, and their ranks.
 use Rattle.std.proofs.Common.{◌≡◌, ℕ, zero, suc, ◌+◌, ◌-◌, ◌<◌, ◌≤◌, true, not, ◌&&◌, leb, ◌⊎◌, List, [], ◌∷◌, ◌++◌, map, length, get_or, take, set, replicate, is_some, Some, None, Option, sym, refl, ap, ◌∙◌, inl, inr, arith}
 use native.Mathlib.Decide.{ℕ_discrete}
-use Rattle.std.specs.List.{AllByRecursion as All}
+use Rattle.std.specs.List.{AllByRecursion}
 use Rattle.std.proofs.lemmas.List.{length-set, length-take-le, get_or-take, get_or-map, length-map, map-append, get_or-set_same, get_or-set_other, ext_get_or, length-replicate, get_or-replicate, take_more_set}
 use Rattle.std.proofs.lemmas.List.FromFn.{length-map-range_with_len, get_or-map-range_with_len}
 use Rattle.std.proofs.lemmas.Bool.{and_parts, and_from, leb-true, le-leb}
@@ -14,7 +14,7 @@ use Rattle.survey.proofs.Ranked.{some_or_none, rank_place, rank_push, rank_push_
 use Rattle.survey.proofs.Marked.{Within, missing_fits}
 
 -- the two tests say what they test
-pub range_within : (n : ℕ) (xs : List ℕ) → in_range n xs ≡ true → All (Within n) xs
+pub range_within : (n : ℕ) (xs : List ℕ) → in_range n xs ≡ true → AllByRecursion (Within n) xs
 range_within n [] h = tt
 range_within n (x ∷ xs) h =
     let (p, q) = and_parts (leb 1 x && leb x n) (in_range n xs) h in
@@ -49,7 +49,7 @@ outside_rank n xs x h out = elim (some_or_none (rank_in xs x)) [
   | inr e ↦ e
 ]
   where
-    within : (ys : List ℕ) (k : ℕ) → All (Within n) ys → (1 ≤ k) × (k ≤ length ys) × (nth ys k 0 ≡ x) → Within n x
+    within : (ys : List ℕ) (k : ℕ) → AllByRecursion (Within n) ys → (1 ≤ k) × (k ≤ length ys) × (nth ys k 0 ≡ x) → Within n x
     within [] k w p = absurd (omega arith)
     within (y ∷ ys) zero w p = absurd (omega arith)
     within (y ∷ ys) (suc zero) w (lo, hi, e) = rw e at w.0
@@ -121,7 +121,7 @@ module _ {N : ℕ} (r : Ranking N) (x : ℕ) (w : Within N x) (new : rank_in (li
   pub add_tied : set r.ranks (x - 1) (Some (r.count + 1)) ≡ rank_table N (take (r.count + 1) (set r.items r.count x))
   add_tied = rw (add_last, r.tied) (table_push N (listed r) x r.count w new (length_listed r))
 
-pub within_range : (m n : ℕ) (xs : List ℕ) → m ≤ n → All (Within m) xs → in_range n xs ≡ true
+pub within_range : (m n : ℕ) (xs : List ℕ) → m ≤ n → AllByRecursion (Within m) xs → in_range n xs ≡ true
 within_range m n [] le h = refl
 within_range m n (x ∷ xs) le ((lo, hi), h) =
     and_from (leb 1 x && leb x n) (in_range n xs) (and_from (leb 1 x) (leb x n) (le-leb 1 x lo) (le-leb x n (omega arith))) (within_range m n xs le h)

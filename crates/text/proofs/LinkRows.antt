@@ -1,6 +1,6 @@
 -- The row that is read from the lines of links, line by line.
 use Rattle.std.proofs.Common.{◌≡◌, ℕ, zero, suc, ◌+◌, ◌*◌, ◌%◌, ◌≤◌, ◌≢◌, List, [], ◌∷◌, ◌++◌, length, Some, None, Err, decimal, Option, sym, refl, ap, ◌∙◌, append_assoc, append-nil, arith}
-use Rattle.std.specs.List.{flat_map, AllByRecursion as All}
+use Rattle.std.specs.List.{flat_map, AllByRecursion}
 use Rattle.std.proofs.lemmas.List.{length-append, nil_from_length}
 use Rattle.std.proofs.ByRecursion.{All-push}
 use Rattle.std.proofs.lemmas.Fmt.{decimal_nonempty}
@@ -17,7 +17,7 @@ link_lines links = flat_map (λ l. line (words_of_link l)) links
 -- the lines before line n + 1 were read into the row, and these bytes are left
 pub record Reading (text row rest : List ℕ) (n : ℕ) : Type 0 where
   pub parts : text ≡ link_lines (pairs row) ++ rest
-  pub links_fit : All LinkInText (pairs row)
+  pub links_fit : AllByRecursion LinkInText (pairs row)
   pub count : length row + 2 ≡ 2 * n
   pub short : 2 * length row + length rest ≤ length text
 

@@ -1,6 +1,6 @@
 -- Bytes have at most one reading.
 use Rattle.std.proofs.Common.{◌≡◌, ℕ, zero, suc, ◌≢◌, ◌⊎◌, List, [], ◌∷◌, ◌++◌, length, Some, None, decimal, Option, sym, refl, ap, ◌∙◌, ap₂, inl, inr, append_assoc, append-nil, arith}
-use Rattle.std.specs.List.{AllByRecursion as All}
+use Rattle.std.specs.List.{AllByRecursion}
 use Rattle.std.proofs.lemmas.Fmt.{decimal_injective}
 use Rattle.text.specs.Form.{InText, LinkInText, words_of_bars, words_of_link, line, text_of, InForm, NoBarsLine, NoLinkLine, FormEnds, BadLine, OneReading}
 use Rattle.text.proofs.Cut.{free_decimal, same_cut}
@@ -41,7 +41,7 @@ goes_on : (l : Option (ℕ × ℕ)) (ls : List (Option (ℕ × ℕ))) (x y : Lis
 goes_on l ls x y p (inl z) e = let q = ap length (sym z ∙ e ∙ append_assoc (line (words_of_link l)) (link_lines ls) y) in omega (arith, line_length l (link_lines ls ++ y))
 goes_on l ls x y p (inr none) e = none l (link_lines ls ++ y) p (e ∙ append_assoc (line (words_of_link l)) (link_lines ls) y)
 
-same_links : (ls ks : List (Option (ℕ × ℕ))) (x y : List ℕ) → All LinkInText ls → All LinkInText ks → Ended x → Ended y
+same_links : (ls ks : List (Option (ℕ × ℕ))) (x y : List ℕ) → AllByRecursion LinkInText ls → AllByRecursion LinkInText ks → Ended x → Ended y
     → link_lines ls ++ x ≡ link_lines ks ++ y → (ls ≡ ks) × (x ≡ y)
 same_links [] [] x y p q u v e = (refl, e)
 same_links [] (k ∷ ks) x y p q u v e = absurd (goes_on k ks x y q.0 u e)
@@ -55,7 +55,7 @@ same_links (l ∷ ls) (k ∷ ks) x y p q u v e =
 -- bytes that begin with a text, after which no more lines of links follow
 record Begun (bytes : List ℕ) (n : ℕ) (ls : List (Option (ℕ × ℕ))) (rest : List ℕ) : Type 0 where
   bars_fit : InText n
-  links_fit : All LinkInText ls
+  links_fit : AllByRecursion LinkInText ls
   parts : bytes ≡ text_of n ls ++ rest
   ended : Ended rest
 

@@ -1,6 +1,6 @@
 -- What reading a text answers. Assumes nothing.
 use Rattle.std.specs.Prelude.{◌≡◌, ℕ, zero, suc, ◌+◌, ◌*◌, ◌%◌, ◌<◌, ◌≤◌, ◌≢◌, List, [], ◌++◌, length, Ok, Err, vec_items, Option, Result}
-use Rattle.std.specs.List.{flat_map, AllByRecursion as All}
+use Rattle.std.specs.List.{flat_map, AllByRecursion}
 use Rattle.faults.specs.declared.Fault.{Fault}
 use Rattle.faults.specs.declared.TextFault.{TextFault}
 use Rattle.net.specs.Sources.{pairs}
@@ -9,7 +9,7 @@ use Rattle.text.specs.Form.{LinkInText, words_of_link, line, InForm, NoLinkLine,
 
 -- The row says what these lines of links say: two numbers a link.
 pub record LinksRead (bytes row : List ℕ) : Type 0 where
-  pub links_fit : All LinkInText (pairs row)
+  pub links_fit : AllByRecursion LinkInText (pairs row)
   pub are_lines : bytes ≡ flat_map (λ l. line (words_of_link l)) (pairs row)
   pub even : length row % 2 ≡ 0
 
@@ -18,7 +18,7 @@ pub record LinksEnd (bytes : List ℕ) (k : ℕ) : Type 0 where
   pub links : List (Option (ℕ × ℕ))
   pub rest : List ℕ
   pub count : length links ≡ k
-  pub links_fit : All LinkInText links
+  pub links_fit : AllByRecursion LinkInText links
   pub parts : bytes ≡ flat_map (λ l. line (words_of_link l)) links ++ rest
   pub more : rest ≢ []
   pub no_link : NoLinkLine rest
