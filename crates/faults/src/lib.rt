@@ -22,6 +22,7 @@ pub enum Layer {
 }
 
 // A question answered no: its layer, its number, and the place.
+// Kept as numbers, a place of 0 too: they are what a refusal prints, and `refusal` alone gives them.
 #[derive(Clone, Copy, PartialEq, Eq, Debug)]
 pub struct Refusal {
     pub layer: Layer,
@@ -131,70 +132,123 @@ impl Fault {
         ensures { result ≡ refusal_of self.now }
     {
         match *self {
-            Fault::Text(TextFault::TooLong) => no(Layer::Text, 1, 0),
-            Fault::Text(TextFault::NotInForm(line)) => no(Layer::Text, 2, line),
-            Fault::Net(NetFault::OddRow) => no(Layer::Net, 3, 0),
-            Fault::Net(NetFault::BarCount) => no(Layer::Net, 4, 0),
-            Fault::Net(NetFault::LinkCount) => no(Layer::Net, 5, 0),
-            Fault::Net(NetFault::EndOutside(link)) => no(Layer::Net, 6, link),
-            Fault::Net(NetFault::EndsEqual(link)) => no(Layer::Net, 7, link),
-            Fault::Survey(SurveyFault::Unreached(bar)) => no(Layer::Survey, 8, bar),
-            Fault::Collector(CollectorFault::Full) => no(Layer::Collector, 9, 0),
-            Fault::Board(fault) => board_refusal(fault),
-            Fault::Stream(fault) => stream_refusal(fault),
-            Fault::Replay(fault) => replay_refusal(fault),
+            Fault::Text(text) => Some(text.refusal()),
+            Fault::Net(net) => Some(net.refusal()),
+            Fault::Survey(survey) => Some(survey.refusal()),
+            Fault::Collector(collector) => Some(collector.refusal()),
+            Fault::Board(board) => Some(board.refusal()),
+            Fault::Stream(stream) => Some(stream.refusal()),
+            Fault::Replay(replay) => Some(replay.refusal()),
             Fault::Memory => None,
         }
     }
 }
 
-// The same for a board's fault.
-fn board_refusal(fault: BoardFault) -> Option<Refusal>
-    ensures { result ≡ refusal_of_board fault }
-{
-    match fault {
-        BoardFault::RowLength => no(Layer::Board, 10, 0),
-        BoardFault::NotInService(link) => no(Layer::Board, 11, link),
-        BoardFault::NotOpen(link) => no(Layer::Board, 12, link),
-        BoardFault::OffLoop(link) => no(Layer::Board, 13, link),
-        BoardFault::NotRadial => no(Layer::Board, 14, 0),
+impl TextFault {
+    // The question that a text answers no.
+    fn refusal(self) -> Refusal
+        ensures { Some result ≡ refusal_of (Text self) }
+    {
+        match self {
+            TextFault::TooLong => Layer::Text.no(1, 0),
+            TextFault::NotInForm(line) => Layer::Text.no(2, line),
+        }
     }
 }
 
-// The same for a stream's fault.
-fn stream_refusal(fault: StreamFault) -> Option<Refusal>
-    ensures { result ≡ refusal_of_stream fault }
-{
-    match fault {
-        StreamFault::UnknownKind(place) => no(Layer::Stream, 15, place),
-        StreamFault::BodyCut(place) => no(Layer::Stream, 16, place),
+impl NetFault {
+    // The question that a net answers no.
+    fn refusal(self) -> Refusal
+        ensures { Some result ≡ refusal_of (Net self) }
+    {
+        match self {
+            NetFault::OddRow => Layer::Net.no(3, 0),
+            NetFault::BarCount => Layer::Net.no(4, 0),
+            NetFault::LinkCount => Layer::Net.no(5, 0),
+            NetFault::EndOutside(link) => Layer::Net.no(6, link),
+            NetFault::EndsEqual(link) => Layer::Net.no(7, link),
+        }
     }
 }
 
-// The same for a replay's fault; one of a lower layer stays as it is.
-fn replay_refusal(fault: ReplayFault) -> Option<Refusal>
-    ensures { result ≡ refusal_of_replay fault }
-{
-    match fault {
-        ReplayFault::Unread(fault) => stream_refusal(fault),
-        ReplayFault::Misplaced(place) => no(Layer::Replay, 17, place),
-        ReplayFault::AnotherNet(place) => no(Layer::Replay, 18, place),
-        ReplayFault::SameLinks(place) => no(Layer::Replay, 19, place),
-        ReplayFault::TooDeep(place) => no(Layer::Replay, 20, place),
-        ReplayFault::NotReversal(place) => no(Layer::Replay, 21, place),
-        ReplayFault::WrongEnd(place) => no(Layer::Replay, 22, place),
-        ReplayFault::OnBoard { fault, record: _ } => board_refusal(fault),
+impl SurveyFault {
+    // The question that a survey answers no.
+    fn refusal(self) -> Refusal
+        ensures { Some result ≡ refusal_of (Survey self) }
+    {
+        match self {
+            SurveyFault::Unreached(bar) => Layer::Survey.no(8, bar),
+        }
     }
 }
 
-fn no(layer: Layer, number: u8, place: u64) -> Option<Refusal>
-    ensures { result ≡ answered_no layer number place }
-{
-    Some(Refusal {
-        layer,
-        number,
-        place,
-    })
+impl CollectorFault {
+    // The question that a collector answers no.
+    fn refusal(self) -> Refusal
+        ensures { Some result ≡ refusal_of (Collector self) }
+    {
+        match self {
+            CollectorFault::Full => Layer::Collector.no(9, 0),
+        }
+    }
+}
+
+impl BoardFault {
+    // The question that a board answers no.
+    fn refusal(self) -> Refusal
+        ensures { Some result ≡ refusal_of_board self }
+    {
+        match self {
+            BoardFault::RowLength => Layer::Board.no(10, 0),
+            BoardFault::NotInService(link) => Layer::Board.no(11, link),
+            BoardFault::NotOpen(link) => Layer::Board.no(12, link),
+            BoardFault::OffLoop(link) => Layer::Board.no(13, link),
+            BoardFault::NotRadial => Layer::Board.no(14, 0),
+        }
+    }
+}
+
+impl StreamFault {
+    // The question that a stream's record answers no.
+    fn refusal(self) -> Refusal
+        ensures { Some result ≡ refusal_of_stream self }
+    {
+        match self {
+            StreamFault::UnknownKind(place) => Layer::Stream.no(15, place),
+            StreamFault::BodyCut(place) => Layer::Stream.no(16, place),
+        }
+    }
+}
+
+impl ReplayFault {
+    // The question that a replay answers no; one of a lower layer stays as it is.
+    fn refusal(self) -> Refusal
+        ensures { Some result ≡ refusal_of_replay self }
+    {
+        match self {
+            ReplayFault::Unread(fault) => fault.refusal(),
+            ReplayFault::Misplaced(place) => Layer::Replay.no(17, place),
+            ReplayFault::AnotherNet(place) => Layer::Replay.no(18, place),
+            ReplayFault::SameLinks(place) => Layer::Replay.no(19, place),
+            ReplayFault::TooDeep(place) => Layer::Replay.no(20, place),
+            ReplayFault::NotReversal(place) => Layer::Replay.no(21, place),
+            ReplayFault::WrongEnd(place) => Layer::Replay.no(22, place),
+            ReplayFault::OnBoard { fault, record: _ } => fault.refusal(),
+        }
+    }
+}
+
+impl Layer {
+    // A question of this layer answered no.
+    fn no(self, number: u8, place: u64) -> Refusal
+        ensures { Some result ≡ answered_no self number place }
+    {
+        Refusal {
+            layer: self,
+            number,
+            place,
+        }
+    }
 }
 
 // The layer's word, in small letters.
@@ -219,13 +273,16 @@ impl fmt::Display for Refusal {
     ghost output = { λ r. Some (refused_line r) };
 
     fn fmt<W: fmt::Write>(&self, f: &mut fmt::Formatter<W>) -> fmt::Result {
-        let layer = self.layer;
-        let number = self.number;
-        let place = self.place;
+        let Refusal {
+            layer,
+            number,
+            place,
+        } = *self;
         write!(f, "refused {layer} {number} {place}")
     }
 }
 
+// Each `From` is written out, since the derived one has no clause, and clauses above name the fault that `?` makes.
 impl From<TextFault> for Fault {
     ghost from_gives = { λ e r. r ≡ Text e };
 

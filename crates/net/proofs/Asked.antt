@@ -1,6 +1,7 @@
 -- The questions on a net's links, asked one after another.
-use Rattle.std.proofs.Common.{◌≡◌, ℕ, zero, suc, ◌+◌, ◌<◌, length, Some, None, inl, inr, arith}
-use native.Mathlib.Decide.{ℕ_discrete, dec_le}
+use Rattle.std.proofs.Common.{◌≡◌, ℕ, ◌+◌, ◌<◌, length, Some, None, inl, inr, arith}
+use native.Mathlib.Decide.{dec_le}
+use borrow.Author.Count.{below_more}
 use Rattle.faults.specs.declared.NetFault.{NetFault}
 use Rattle.faults.specs.declared.NetFault.TheVariants.{EndOutside, EndsEqual}
 use Rattle.net.specs.Nets.{Net, ends_of}
@@ -12,15 +13,8 @@ module _ (net : Net) where
   no_link : (l a b : ℕ) → length net.links < l → ends_of net l ≡ Some (a, b) → ⊥
   no_link l a b h e = let p = nth_past net.links l None h in let z : ◌≡◌ {A = ℕ} 0 1 = cc in omega arith
 
-  pub none_asked : PassBelow net 1
-  none_asked zero h = ((λ a b e. let z : ◌≡◌ {A = ℕ} 0 1 = cc in absurd (omega arith)), (λ a b e. let z : ◌≡◌ {A = ℕ} 0 1 = cc in absurd (omega arith)))
-  none_asked (suc k) h = absurd (omega arith)
-
   pub one_more : (l : ℕ) → PassBelow net l → EndsAreBars net l × EndsDiffer net l → PassBelow net (l + 1)
-  one_more l below now k h = elim (ℕ_discrete k l) [
-    | yes e ↦ rw e now
-    | no ne ↦ below k (omega arith)
-  ]
+  one_more l = below_more (λ k. EndsAreBars net k × EndsDiffer net k) l
 
   pub all_asked : (l : ℕ) → FewBars net → FewLinks net → length net.links < l → PassBelow net l → WithinLimits net
   all_asked l bars links end below = record {

@@ -1,11 +1,11 @@
 -- The links of a ladder.
-use Rattle.std.proofs.Common.{◌≡◌, ℕ, ◌+◌, ◌-◌, ◌*◌, ◌<◌, ◌≤◌, List, map, length, Some, None, Option, ap, ◌∙◌, arith}
+use Rattle.std.proofs.Common.{◌≡◌, ℕ, ◌+◌, ◌-◌, ◌*◌, ◌≤◌, List, map, length, Some, None, Option, ap, ◌∙◌, arith}
 use Rattle.std.specs.List.{range_with_len}
 use Rattle.std.proofs.lemmas.List.{length-append}
 use Rattle.std.proofs.lemmas.List.FromFn.{length-map-range_with_len}
 use Rattle.net.specs.Nets.{nth, ends_of}
 use Rattle.net.specs.Sources.{ladder_net}
-use Rattle.net.proofs.Numbered.{nth_append_left, nth_append_right, nth_made, nth_made_past}
+use Rattle.net.proofs.Numbered.{nth_append_left, nth_append_right, nth_made, nth_outside}
 
 rails : ℕ → List (Option (ℕ × ℕ))
 rails n = map (λ i. Some (i, i + 1)) (range_with_len 1 (2 * n - 1))
@@ -36,8 +36,5 @@ ladder_rung n i k lo hi e =
     nth_append_right (rails n) (rungs n) (2 * n - 1) i None (length_rails n) (omega arith)
     ∙ ap (λ j. nth (rungs n) j None) d ∙ nth_made (λ i. Some (i, 2 * n + 1 - i)) (n - 1) k None lo hi
 
-pub ladder_past : (n i : ℕ) → (2 * n - 1) + (n - 1) < i → ends_of (ladder_net n) i ≡ None
-unfolding rails rungs
-ladder_past n i h =
-    nth_append_right (rails n) (rungs n) (2 * n - 1) i None (length_rails n) (omega arith)
-    ∙ nth_made_past (λ i. Some (i, 2 * n + 1 - i)) (n - 1) (i - (2 * n - 1)) None (omega arith)
+pub ladder_past : (n i : ℕ) → ¬ ((1 ≤ i) × (i ≤ (2 * n - 1) + (n - 1))) → ends_of (ladder_net n) i ≡ None
+ladder_past n i out = nth_outside (ladder_net n).links ((2 * n - 1) + (n - 1)) i None (ladder_links n) out

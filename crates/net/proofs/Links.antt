@@ -5,18 +5,8 @@ use Rattle.net.specs.Nets.{Net, ends_of, IsBar, Joins, forth, back, InService}
 use Rattle.net.specs.Limits.{WithinLimits}
 use Rattle.net.proofs.Numbered.{nth_past}
 
--- the two parts of an optional pair
-first : Option (ℕ × ℕ) → ℕ
-first None = 0
-first (Some p) = p.0
-
-second : Option (ℕ × ℕ) → ℕ
-second None = 0
-second (Some p) = p.1
-
 pub same_pair : {a b x y : ℕ} → ◌≡◌ {A = Option (ℕ × ℕ)} (Some (a, b)) (Some (x, y)) → (a ≡ x) × (b ≡ y)
-unfolding first second
-same_pair e = (ap first e, ap second e)
+same_pair {a} {b} {x} {y} e = let p : ◌≡◌ {A = ℕ × ℕ} (a, b) (x, y) = cc in (ap (λ q. q.0) p, ap (λ q. q.1) p)
 
 module _ (net : Net) where
   pub joins_flip : {l a b : ℕ} → Joins net l a b → Joins net l b a

@@ -2,7 +2,7 @@
 use Rattle.std.proofs.Common.{◌≡◌, ℕ, zero, suc, ◌-◌, ◌<◌, ◌≤◌, ◌≢◌, List, [], ◌∷◌, ◌++◌, map, length, take, set, refl, ap, arith}
 use native.Mathlib.Decide.{dec_le}
 use Rattle.std.proofs.lemmas.List.{get_or-set_same, get_or-set_other, get_or_past, set_past, get_or_append_left, get_or-append_right, get_or-take, length-set, set-set, set-get_or}
-use Rattle.std.proofs.lemmas.List.FromFn.{length-map-range_with_len, get_or-map-range_with_len}
+use Rattle.std.proofs.lemmas.List.FromFn.{get_or-map-range_with_len}
 use Rattle.std.specs.List.{range_with_len}
 use Rattle.net.specs.Nets.{nth, put}
 
@@ -60,9 +60,6 @@ nth_append_right xs ys n (suc i) d e h =
 pub nth_made : {A : Type 0} (f : ℕ → A) (n i : ℕ) (d : A) → 1 ≤ i → i ≤ n → nth (map f (range_with_len 1 n)) i d ≡ f i
 nth_made f n zero d lo hi = absurd (omega arith)
 nth_made f n (suc i) d lo hi = get_or-map-range_with_len f 1 n i (suc i) d (omega arith) (omega arith)
-
-pub nth_made_past : {A : Type 0} (f : ℕ → A) (n i : ℕ) (d : A) → n < i → nth (map f (range_with_len 1 n)) i d ≡ d
-nth_made_past f n i d h = nth_past (map f (range_with_len 1 n)) i d (rw (length-map-range_with_len f 1 n) h)
 
 -- the first n of a list
 set_first : {A : Type 0} (xs : List A) (n i : ℕ) (x : A) → take n (set xs i x) ≡ set (take n xs) i x

@@ -1,5 +1,7 @@
 -- A row read in pairs.
-use Rattle.std.proofs.Common.{◌≡◌, ℕ, zero, suc, ◌+◌, ◌-◌, ◌*◌, ◌/◌, ◌%◌, ◌<◌, ◌≤◌, List, [], ◌∷◌, ◌++◌, length, get_or, None, refl, ap, add-one, arith}
+use Rattle.std.proofs.Common.{◌≡◌, ℕ, suc, ◌/◌, ◌%◌, ◌<◌, List, [], ◌∷◌, ◌++◌, map, length, get_or, None, refl, ap, arith}
+use Rattle.std.specs.Simd.{first_chunks}
+use Rattle.std.proofs.lemmas.List.{get_or-map}
 use Rattle.net.specs.Nets.{nth}
 use Rattle.net.specs.Sources.{pair_of, pairs}
 use Rattle.net.proofs.Numbered.{nth_past}
@@ -9,19 +11,17 @@ length_pairs [] = refl
 length_pairs (a ∷ []) = refl
 length_pairs (a ∷ (b ∷ row)) = omega (arith, length_pairs row)
 
-at_pairs : (row : List ℕ) (i j : ℕ) → i < length row / 2 → j ≡ i * 2 → get_or (pairs row) i None ≡ pair_of (get_or row j 0) (get_or row (suc j) 0)
-at_pairs [] i j h e = absurd (omega arith)
-at_pairs (a ∷ []) i j h e = absurd (omega arith)
-at_pairs (a ∷ (b ∷ row)) zero zero h e = refl
-at_pairs (a ∷ (b ∷ row)) zero (suc j) h e = absurd (omega arith)
-at_pairs (a ∷ (b ∷ row)) (suc i) zero h e = absurd (omega arith)
-at_pairs (a ∷ (b ∷ row)) (suc i) (suc zero) h e = absurd (omega arith)
-at_pairs (a ∷ (b ∷ row)) (suc i) (suc (suc j)) h e = at_pairs row i j (omega arith) (omega arith)
+-- the same pairs, from the row cut into lists of two
+pairs_cut : (row : List ℕ) → pairs row ≡ map (λ p. pair_of (get_or p 0 0) (get_or p 1 0)) (first_chunks 2 (length row / 2) row)
+pairs_cut [] = refl
+pairs_cut (a ∷ []) = refl
+pairs_cut (a ∷ (b ∷ row)) =
+    let e : length (a ∷ (b ∷ row)) / 2 ≡ suc (length row / 2) = omega arith in
+    rw e (ap (λ ps. pair_of a b ∷ ps) (pairs_cut row))
 
-pub nth_pairs : (row : List ℕ) (i : ℕ) → 1 ≤ i → i ≤ length row / 2
-    → nth (pairs row) i None ≡ pair_of (get_or row ((i - 1) * 2) 0) (get_or row ((i - 1) * 2 + 1) 0)
-nth_pairs row zero lo hi = absurd (omega arith)
-nth_pairs row (suc i) lo hi = simp add-one (at_pairs row i ((suc i - 1) * 2) (omega arith) (omega arith))
+pub nth_pairs : (row p : List ℕ) (cut : List (List ℕ)) (i j : ℕ) → cut ≡ first_chunks 2 (length row / 2) row → j < length cut → i ≡ suc j → p ≡ get_or cut j []
+    → nth (pairs row) i None ≡ pair_of (get_or p 0 0) (get_or p 1 0)
+nth_pairs row p cut i j is lt at e = rw (at, pairs_cut row, ← is, e) (get_or-map _ cut j [] None lt)
 
 pub nth_pairs_past : (row : List ℕ) (i : ℕ) → length row / 2 < i → nth (pairs row) i None ≡ None
 nth_pairs_past row i h = nth_past (pairs row) i None (rw (length_pairs row) h)

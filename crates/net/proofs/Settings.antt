@@ -1,6 +1,8 @@
 -- Settings: opening, closing and counting links, and reach.
-use Rattle.std.proofs.Common.{◌≡◌, ℕ, zero, suc, ◌+◌, ◌≤◌, Bool, true, false, cond, ◌≢◌, ◌⊎◌, length, is_some, Some, None, Option, refl, ◌∙◌, inl, inr, arith}
+use Rattle.std.proofs.Common.{◌≡◌, ℕ, zero, suc, ◌+◌, ◌≤◌, Bool, true, false, cond, ◌≢◌, length, is_some, Some, None, Option, refl, ◌∙◌, arith}
 use native.Mathlib.Decide.{ℕ_discrete, dec_le}
+pub use Rattle.std.proofs.lemmas.Bool.{cases_Bool as closed_or_open}
+use Rattle.std.proofs.lemmas.Bool.{false_from_ne_true}
 use Rattle.std.proofs.lemmas.List.{get_or-map}
 use Rattle.std.proofs.lemmas.List.Sums.{sum_by-set}
 use Rattle.net.specs.Nets.{nth, put, Net, ends_of, Joins}
@@ -8,10 +10,6 @@ use Rattle.net.specs.Settings.{Setting, Closed, closing, opening, closed_links, 
 use Rattle.net.proofs.Numbered.{nth_put_same, nth_put_other, nth_past, length_put, put_put, put_nth}
 use Rattle.net.proofs.Ways.{way_along, way_back}
 use Rattle.net.proofs.Links.{joins_flip, joins_range, out_of_service}
-
-pub closed_or_open : (c : Bool) → (c ≡ true) ⊎ (c ≡ false)
-closed_or_open true = inl refl
-closed_or_open false = inr refl
 
 pub not_both : {c : Bool} → c ≡ true → c ≡ false → ⊥
 not_both {c} p q = let z : ◌≡◌ {A = ℕ} 0 1 = cc in omega arith
@@ -84,13 +82,10 @@ pub opening_keeps : (T : Setting) (e l : ℕ) → Closed T l → l ≢ e → Clo
 opening_keeps T e l h ne = rw (nth_put_other T e l false false ne) h
 
 pub opening_stays_open : (T : Setting) (e l : ℕ) → nth T l false ≡ false → nth (opening T e) l false ≡ false
-opening_stays_open T e l h = elim (closed_or_open (nth (opening T e) l false)) [
-  | inl c ↦ absurd (not_both (opening_only T e l c).0 h)
-  | inr o ↦ o
-]
+opening_stays_open T e l h = false_from_ne_true (nth (opening T e) l false) (λ c. not_both (opening_only T e l c).0 h)
 
 pub open_from_not : (T : Setting) (l : ℕ) → ¬ Closed T l → nth T l false ≡ false
-open_from_not T l h = elim (closed_or_open (nth T l false)) [ inl c ↦ absurd (h c) | inr o ↦ o ]
+open_from_not T l h = false_from_ne_true (nth T l false) h
 
 pub not_from_open : (T : Setting) (l : ℕ) → nth T l false ≡ false → ¬ Closed T l
 not_from_open T l o c = not_both c o

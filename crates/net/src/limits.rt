@@ -17,29 +17,28 @@ pub const INFEED: u32 = 1;
 pub fn check<S: NetSource>(source: &S) -> Result<(), NetFault>
     ensures { MatchResult result (λ _. WithinLimits (S.meaning source.now)) (λ f. FirstNo (S.meaning source.now) f) }
 {
-    let bars = source.bars();
-    if bars < 1 || bars > MOST_BARS {
+    if !(1..=MOST_BARS).contains(&source.bars()) {
         return Err(NetFault::BarCount);
     }
     let links = source.links();
     if links > MOST_LINKS {
         return Err(NetFault::LinkCount);
     }
-    for link in 1..links + 1 {
-        check_link(source, bars, link)?;
+    for link in 1..=links {
+        check_link(source, link)?;
     }
     Ok(())
 }
 
 // The two questions that are asked of a link.
-fn check_link<S: NetSource>(source: &S, bars: u32, link: u64) -> Result<(), NetFault>
-    requires { bars ≡ (S.meaning source.now).bars }
+fn check_link<S: NetSource>(source: &S, link: u64) -> Result<(), NetFault>
     ensures { MatchResult result (λ _. EndsAreBars (S.meaning source.now) link × EndsDiffer (S.meaning source.now) link) (λ f. FirstLinkNo (S.meaning source.now) link f) }
 {
     let Some((a, b)) = source.ends(link) else {
         return Ok(());
     };
-    if a < 1 || a > bars || b < 1 || b > bars {
+    let bars = 1..=source.bars();
+    if !bars.contains(&a) || !bars.contains(&b) {
         return Err(NetFault::EndOutside(link));
     }
     if a == b {

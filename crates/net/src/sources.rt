@@ -1,5 +1,5 @@
 // The list source and the ladder source.
-ghost use Rattle.std.specs.Prelude.{◌≡◌, ◌+◌, ◌-◌, ◌*◌, ◌%◌, ◌^◌, ◌<◌, ◌≤◌, length, None, MatchResult, slice_index};
+ghost use Rattle.std.specs.Prelude.{◌≡◌, ◌-◌, ◌*◌, ◌%◌, length, None, MatchResult};
 ghost use Rattle.faults.specs.declared.NetFault.TheVariants.{OddRow};
 ghost use Rattle.net.specs.Nets.{nth, ends_of};
 ghost use Rattle.net.specs.Sources.{pair_of, pairs, list_net, ladder_net};
@@ -8,6 +8,7 @@ use crate::source::NetSource;
 use faults::NetFault;
 
 // A net in a borrowed row of numbers, two for each link, where 0 0 is a link out of service.
+// The rules of the list source set this form, so it is no list of optional pairs.
 #[derive(Clone, Copy)]
 pub struct ListSource<'a> {
     bars: u32,
@@ -46,27 +47,19 @@ impl NetSource for ListSource<'_> {
 fn count_pairs(row: &[u32]) -> u64
     ensures { result ≡ length (pairs row.now) }
 {
-    (row.len() / 2) as u64
+    let (pairs, _) = row.as_chunks::<2>();
+    pairs.len() as u64
 }
 
 // The pair of a row with this number, from 1; none where there is no such pair or it is 0 0.
 fn pair(row: &[u32], number: u64) -> Option<(u32, u32)>
     ensures { result ≡ nth (pairs row.now) number None }
 {
-    if number < 1 || number > (row.len() / 2) as u64 {
-        return None;
+    let (pairs, _) = row.as_chunks::<2>();
+    match *pairs.get(number.checked_sub(1)? as usize)? {
+        [0, 0] => None,
+        [a, b] => Some((a, b)),
     }
-    pair_at(row, (number as usize - 1) * 2)
-}
-
-// The two numbers of a row at this index and the next; none for 0 0.
-fn pair_at(row: &[u32], at: usize) -> Option<(u32, u32)>
-    requires { at + 1 < length row.now }
-    ensures { result ≡ pair_of (slice_index row.now at) (slice_index row.now (at + 1)) }
-{
-    let a = row[at];
-    let b = row[at + 1];
-    if a == 0 && b == 0 { None } else { Some((a, b)) }
 }
 
 // The ladder of a number of rungs; its links are worked out, not stored.
@@ -104,7 +97,7 @@ impl NetSource for LadderSource {
 fn count_links(rungs: u16) -> u64
     ensures { result ≡ length (ladder_net rungs).links }
 {
-    rail_links(rungs) + u64::from(rungs.saturating_sub(1))
+    u64::from(rail_links(rungs) + u32::from(rungs.saturating_sub(1)))
 }
 
 // The bars of a link of a ladder; none where there is no such link.
@@ -112,38 +105,21 @@ fn ladder_ends(rungs: u16, link: u64) -> Option<(u32, u32)>
     ensures { result ≡ ends_of (ladder_net rungs) link }
 {
     let rail = rail_links(rungs);
-    if link < 1 {
+    let rungs = u32::from(rungs);
+    let link = u32::try_from(link).ok()?;
+    if (1..=rail).contains(&link) {
+        return Some((link, link + 1));
+    }
+    let rung = link.checked_sub(rail)?;
+    if !(1..rungs).contains(&rung) {
         return None;
     }
-    if link <= rail {
-        return Some(rail_ends(link));
-    }
-    let rung = link - rail;
-    if rung >= u64::from(rungs) {
-        return None;
-    }
-    Some(rung_ends(rungs, rung))
+    Some((rung, 2 * rungs + 1 - rung))
 }
 
 // How many links the rail of a ladder has.
-fn rail_links(rungs: u16) -> u64
+fn rail_links(rungs: u16) -> u32
     ensures { result ≡ 2 * rungs - 1 }
 {
-    (2 * u64::from(rungs)).saturating_sub(1)
-}
-
-// The bars of a link of the rail.
-fn rail_ends(link: u64) -> (u32, u32)
-    requires { link < 2 ^ 31 }
-    ensures { result ≡ (link, link + 1) }
-{
-    (link as u32, link as u32 + 1)
-}
-
-// The bars of a rung.
-fn rung_ends(rungs: u16, rung: u64) -> (u32, u32)
-    requires { rung ≤ rungs }
-    ensures { result ≡ (rung, 2 * rungs + 1 - rung) }
-{
-    (rung as u32, 2 * u32::from(rungs) + 1 - rung as u32)
+    (2 * u32::from(rungs)).saturating_sub(1)
 }

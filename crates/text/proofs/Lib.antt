@@ -1,6 +1,7 @@
-mod Decimals
+pub mod Decimals
 mod Cut
 mod Words
+mod SplitLines
 mod LineEnds
 mod LinkRows
-mod Unique
+pub mod Unique

@@ -1,6 +1,7 @@
 -- Bytes have at most one reading.
 use Rattle.std.proofs.Common.{◌≡◌, ℕ, zero, suc, ◌≢◌, ◌⊎◌, List, [], ◌∷◌, ◌++◌, length, Some, None, decimal, Option, sym, refl, ap, ◌∙◌, ap₂, inl, inr, append_assoc, append-nil, arith}
-use Rattle.std.specs.List.{AllByRecursion}
+use Rattle.std.specs.List.{All}
+use Rattle.std.proofs.lemmas.List.Elements.{All-head, All-tail}
 use Rattle.std.proofs.lemmas.Fmt.{decimal_injective}
 use Rattle.text.specs.Form.{InText, LinkInText, words_of_bars, words_of_link, line, text_of, InForm, NoBarsLine, NoLinkLine, FormEnds, BadLine, OneReading}
 use Rattle.text.proofs.Cut.{free_decimal, same_cut}
@@ -41,21 +42,21 @@ goes_on : (l : Option (ℕ × ℕ)) (ls : List (Option (ℕ × ℕ))) (x y : Lis
 goes_on l ls x y p (inl z) e = let q = ap length (sym z ∙ e ∙ append_assoc (line (words_of_link l)) (link_lines ls) y) in omega (arith, line_length l (link_lines ls ++ y))
 goes_on l ls x y p (inr none) e = none l (link_lines ls ++ y) p (e ∙ append_assoc (line (words_of_link l)) (link_lines ls) y)
 
-same_links : (ls ks : List (Option (ℕ × ℕ))) (x y : List ℕ) → AllByRecursion LinkInText ls → AllByRecursion LinkInText ks → Ended x → Ended y
+same_links : (ls ks : List (Option (ℕ × ℕ))) (x y : List ℕ) → All LinkInText ls → All LinkInText ks → Ended x → Ended y
     → link_lines ls ++ x ≡ link_lines ks ++ y → (ls ≡ ks) × (x ≡ y)
 same_links [] [] x y p q u v e = (refl, e)
-same_links [] (k ∷ ks) x y p q u v e = absurd (goes_on k ks x y q.0 u e)
-same_links (l ∷ ls) [] x y p q u v e = absurd (goes_on l ls y x p.0 v (sym e))
+same_links [] (k ∷ ks) x y p q u v e = absurd (goes_on k ks x y (All-head LinkInText k ks q) u e)
+same_links (l ∷ ls) [] x y p q u v e = absurd (goes_on l ls y x (All-head LinkInText l ls p) v (sym e))
 same_links (l ∷ ls) (k ∷ ks) x y p q u v e =
-    let (a, r) = same_link_line l k (link_lines ls ++ x) (link_lines ks ++ y) p.0 q.0
+    let (a, r) = same_link_line l k (link_lines ls ++ x) (link_lines ks ++ y) (All-head LinkInText l ls p) (All-head LinkInText k ks q)
     (sym (append_assoc (line (words_of_link l)) (link_lines ls) x) ∙ e ∙ append_assoc (line (words_of_link k)) (link_lines ks) y) in
-    let (b, s) = same_links ls ks x y p.1 q.1 u v r in
+    let (b, s) = same_links ls ks x y (All-tail LinkInText l ls p) (All-tail LinkInText k ks q) u v r in
     (ap₂ (λ h t. h ∷ t) a b, s)
 
 -- bytes that begin with a text, after which no more lines of links follow
 record Begun (bytes : List ℕ) (n : ℕ) (ls : List (Option (ℕ × ℕ))) (rest : List ℕ) : Type 0 where
   bars_fit : InText n
-  links_fit : AllByRecursion LinkInText ls
+  links_fit : All LinkInText ls
   parts : bytes ≡ text_of n ls ++ rest
   ended : Ended rest
 

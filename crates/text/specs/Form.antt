@@ -1,6 +1,6 @@
 -- The text form of a net: a line for the bars, then a line for each link. Assumes nothing.
 use Rattle.std.specs.Prelude.{◌≡◌, ℕ, zero, suc, ◌≤◌, ◌≢◌, List, [], ◌∷◌, ◌++◌, length, Some, None, codes, decimal, Option}
-use Rattle.std.specs.List.{flat_map, AllByRecursion}
+use Rattle.std.specs.List.{flat_map, All}
 
 -- The numbers of a text: 1 to 65535. They stand in decimal, without leading zeros.
 abbrev pub InText : ℕ → Type 0
@@ -31,7 +31,7 @@ text_of n links = line (words_of_bars n) ++ flat_map (λ l. line (words_of_link 
 -- These bytes are the text of n bars and these links.
 pub record InForm (bytes : List ℕ) (n : ℕ) (links : List (Option (ℕ × ℕ))) : Type 0 where
   pub bars_fit : InText n
-  pub links_fit : AllByRecursion LinkInText links
+  pub links_fit : All LinkInText links
   pub is_text : bytes ≡ text_of n links
 
 -- The bytes do not begin with a first line.

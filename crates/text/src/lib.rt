@@ -9,7 +9,7 @@ mod reader;
 
 pub use reader::{MOST_BYTES, MOST_NUMBERS, read};
 
-// What a text says: the number of bars, and a row of two numbers for each link, 0 0 where it is out of service.
+// What a text says: the number of bars, and a row of two numbers for each link, 0 0 where it is out of service, as a list source reads it.
 #[derive(Drop)]
 pub struct TextNet {
     bars: u32,

@@ -1,57 +1,35 @@
 // Numbers of a text.
-ghost use Rattle.std.specs.Prelude.{◌≡◌, ℕ, ◌<◌, ◌≤◌, not, ◌&&◌, ◌≢◌, ◌∷◌, ◌++◌, length, decimal, MatchOption, ◌==◌, nat_lt, slice_index};
+ghost use Rattle.std.specs.Prelude.{◌≡◌, ℕ, ◌≢◌, ◌∷◌, ◌++◌, decimal, MatchOption};
 ghost use Rattle.text.specs.Form.{InText};
+ghost use Rattle.text.specs.Cuts.{Free};
 
 // The number that these digits write: 1 to 65535, without leading zeros.
+#[tactic(auto, using(crate::proofs::Decimals::first_digit))]
 pub(crate) fn number(digits: &[u8]) -> Option<u32>
     ensures { MatchOption result ((n : ℕ) → InText n → digits.now ≢ decimal n) (λ n. InText n × (digits.now ≡ decimal n)) }
 {
-    if !begins_number(digits) {
+    if !matches!(digits, [b'1'..=b'9', ..]) {
         return None;
     }
-    let mut value: u32 = 0;
-    for digit in digits {
-        if *digit < b'0' || *digit > b'9' {
-            return None;
-        }
-        value = value * 10 + u32::from(*digit - b'0');
-        if value > 65535 {
-            return None;
-        }
-    }
-    Some(value)
-}
-
-// Whether a first digit is there, and it is not 0.
-fn begins_number(digits: &[u8]) -> bool
-    ensures { result ≡ (nat_lt 0 (length digits.now) && not (slice_index digits.now 0 == 48)) }
-{
-    !digits.is_empty() && digits[0] != b'0'
-}
-
-// The index of the first byte that equals `byte`, or the length where there is none.
-pub(crate) fn find(bytes: &[u8], byte: u8) -> usize
-    ensures within { result ≤ length bytes.now }
-    ensures before { (k : ℕ) → k < result → slice_index bytes.now k ≢ byte }
-    ensures found { result < length bytes.now → slice_index bytes.now result ≡ byte }
-{
-    for (i, b) in bytes.iter().enumerate() {
-        if *b == byte {
-            return i;
-        }
-    }
-    bytes.len()
+    str::from_utf8(digits)
+        .ok()?
+        .parse::<u16>()
+        .ok()
+        .map(u32::from)
 }
 
 // Two numbers with a single space between.
 pub(crate) fn two_numbers(bytes: &[u8]) -> Option<(u32, u32)>
     ensures { MatchOption result ((a b : ℕ) → InText a → InText b → bytes.now ≢ decimal a ++ (32 ∷ decimal b)) (λ p. InText p.0 × InText p.1 × (bytes.now ≡ decimal p.0 ++ (32 ∷ decimal p.1))) }
 {
-    let space = find(bytes, b' ');
-    if space == bytes.len() {
-        return None;
-    }
-    let a = number(&bytes[0..space])?;
-    let b = number(&bytes[space + 1..])?;
-    Some((a, b))
+    let (a, b) = split_once(bytes, b' ')?;
+    Some((number(a)?, number(b)?))
+}
+
+// The bytes before the first that equals `byte`, and those after it; none where no byte does.
+pub(crate) fn split_once(bytes: &[u8], byte: u8) -> Option<(&[u8], &[u8])>
+    ensures { MatchOption result (Free byte bytes.now) (λ p. Free byte p.0.now × (bytes.now ≡ p.0.now ++ (byte ∷ p.1.now))) }
+{
+    let at = bytes.iter().position(|b| *b == byte)?;
+    Some((&bytes[..at], &bytes[at + 1..]))
 }

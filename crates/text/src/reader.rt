@@ -1,7 +1,7 @@
 // The text reader.
-ghost use Rattle.std.specs.Prelude.{◌≡◌, [], vec_capacity, MatchResult};
+ghost use Rattle.std.specs.Prelude.{vec_capacity};
 ghost use Rattle.text.specs.Form.{OneReading};
-ghost use Rattle.text.specs.Readings.{LinksRead, LinksFault, Reads};
+ghost use Rattle.text.specs.Readings.{Reads};
 
 use crate::TextNet;
 use crate::lines::{bars_line, link_line};
@@ -14,39 +14,24 @@ pub const MOST_BYTES: usize = 4096;
 pub const MOST_NUMBERS: usize = 2044;
 
 // Reads a text into bars and a row, which takes the memory of the row given. No text has two readings.
-pub fn read(text: &[u8], row: Vec<u32>) -> Result<TextNet, Fault>
+#[tactic(auto, using(crate::proofs::Unique::one_reading))]
+pub fn read(text: &[u8], mut row: Vec<u32>) -> Result<TextNet, Fault>
     ensures answer { Reads text.now (vec_capacity row) result }
     ensures one { OneReading text.now }
-{
-    read_lines(text, row)
-}
-
-// Reads a text line by line.
-fn read_lines(text: &[u8], mut row: Vec<u32>) -> Result<TextNet, Fault>
-    ensures { Reads text.now (vec_capacity row) result }
 {
     if text.len() > MOST_BYTES {
         return Err(Fault::Text(TextFault::TooLong));
     }
-    let (bars, rest) = bars_line(text)?;
+    let mut lines = text.split_inclusive(|byte| *byte == b'\n');
+    let bars = lines
+        .next()
+        .and_then(bars_line)
+        .ok_or(TextFault::NotInForm(1))?;
     row.clear();
-    read_links(rest, &mut row)?;
-    Ok(TextNet { bars, row })
-}
-
-// Reads the lines of links, from line 2 on, into an empty row.
-fn read_links(text: &[u8], row: &mut Vec<u32>) -> Result<(), Fault>
-    requires { row.old.items ≡ [] }
-    ensures { MatchResult result (λ _. LinksRead text.now row.new.items) (λ f. LinksFault text.now (vec_capacity row.old) f) }
-{
-    let mut rest = text;
-    let mut number = 1;
-    while !rest.is_empty() {
-        number += 1;
-        let ((a, b), after) = link_line(rest, number)?;
+    for (line, number) in lines.zip(2..) {
+        let (a, b) = link_line(line).ok_or(TextFault::NotInForm(number))?;
         row.push(a)?;
         row.push(b)?;
-        rest = after;
     }
-    Ok(())
+    Ok(TextNet { bars, row })
 }

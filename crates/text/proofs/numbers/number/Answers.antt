@@ -1,34 +1,16 @@
-use Rattle.std.proofs.Common.{◌≡◌, ◌+◌, sym, ap, ◌∙◌, inl, inr, arith}
-use Rattle.std.specs.Str.Parse.{digits_value}
-use Rattle.std.proofs.lemmas.List.{take_all}
-use Rattle.text.proofs.Decimals.{no_number, some_number, all_digits, not_too_great, is_decimal, more_digits}
+use Rattle.std.proofs.Common.{◌≡◌, ◌≤◌, get_or, rules}
+use Rattle.std.specs.Str.{IsUtf8}
+use Rattle.text.proofs.Decimals.{utf8_number, parsed}
 use Rattle.text.proofs.numbers.number.Goals as goal
-use Rattle.text.proofs.numbers.number.Goals.{then-digit-lt48-via-then-digit-lt48, then-digit-lt48-via-else-digit-lt48+then-digit-gt57}
 
-pub returns-then-not-begins_number : goal.returns-then-not-begins_number
-returns-then-not-begins_number c = no_number c.args.digits.now (sym c.if-not-begins_number.ensures)
-
-pub returns-then-digit-lt48 : goal.returns-then-digit-lt48
-returns-then-digit-lt48 c = all_digits c.args.digits.now c.loop-digit.digit-index c.loop-digit-test.true (elim c.then-digit-lt48.branch [
-  | then-digit-lt48-via-then-digit-lt48 w ↦ inl w.if-digit-lt48.true
-  | then-digit-lt48-via-else-digit-lt48+then-digit-gt57 w ↦ inr w.if-digit-gt57.true
-])
-
-pub returns-then-value-gt65535 : goal.returns-then-value-gt65535
-returns-then-value-gt65535 c =
-    let i = c.loop-digit.digit-index in
-    let m = more_digits c.args.digits.now i c.loop-digit.value c.loop-digit-test.true c.if-digit-lt48.false c.if-digit-gt57.false c.loop-digit.invariant.0 c.loop-digit.invariant.1 in
-    not_too_great c.args.digits.now (i + 1) (omega (arith, m.1))
-
-pub loop-digit-preserved : goal.loop-digit-preserved
-loop-digit-preserved c =
-    let m = more_digits c.args.digits.now c.loop-digit.digit-index c.loop-digit.value c.loop-digit-test.true c.if-digit-lt48.false c.if-digit-gt57.false c.loop-digit.invariant.0 c.loop-digit.invariant.1 in
-    (m.0, omega (arith, m.1), c.if-value-gt65535.false)
+pub returns-in_err-ok : goal.returns-in_err-ok
+returns-in_err-ok c =
+    let none : ¬ IsUtf8 c.args.digits.now = search rules in
+    rw c.from_residual.ensures (λ n i e. none (utf8_number c.args.digits.now n i e))
 
 pub returns : goal.returns
 returns c =
-    let ds = c.args.digits.now in
-    let all = take_all c.loop-digit.digit-index ds c.loop-digit-test.false in
-    let e : c.loop-digit.value ≡ digits_value 10 ds = c.loop-digit.invariant.1 ∙ ap (digits_value 10) all in
-    let some = some_number ds (sym c.if-not-begins_number.ensures) in
-    rw e (is_decimal ds (rw all at c.loop-digit.invariant.0) some.0 some.1 (omega (arith, c.loop-digit.invariant.2)))
+    let first : 49 ≤ get_or c.args.digits.now 0 0 = search rules in
+    let text : c.in_ok-ok.field-0.now ≡ c.args.digits.now = search rules in
+    let same : c.map.result ≡ c.ok-2.result = search rules in
+    rw (same, c.ok-2.ensures.value) (parsed c.args.digits.now c.parse.result first (rw text at c.parse.ensures.value.0))
