@@ -33,30 +33,30 @@ next_fresh xs k once lt = elim (some_or_none (rank_in (take k xs) (get_or xs k 0
         omega arith
 
 -- one number more under a filter, and in a joined list
-pub kept_more : (p : ℕ → Bool) (k : ℕ) → 1 ≤ k → filter p (range_with_len 1 (k + 1 - 1)) ≡ filter p (range_with_len 1 (k - 1)) ++ cond (p k) (k ∷ []) []
-kept_more p zero lo = absurd (omega arith)
-kept_more p (suc k) lo =
-    let z : suc k + 1 - 1 ≡ suc k = omega arith in
+pub kept_more : (p : ℕ → Bool) (k n : ℕ) → 1 ≤ k → k ≡ n → filter p (range_with_len 1 n) ≡ filter p (range_with_len 1 (k - 1)) ++ cond (p k) (k ∷ []) []
+kept_more p zero n lo e = absurd (omega arith)
+kept_more p (suc k) n lo e =
+    let z : n ≡ suc k = omega arith in
     let y : k ≡ suc k - 1 = omega arith in
     let x : 1 + k ≡ suc k = omega arith in
-    ap (λ n. filter p (range_with_len 1 n)) z ∙ ap (filter p) (counting_push 1 k ∙ ap (λ n. range_with_len 1 k ++ n ∷ []) x)
-    ∙ filter-append p (range_with_len 1 k) (suc k ∷ []) ∙ ap (λ n. filter p (range_with_len 1 n) ++ cond (p (suc k)) (suc k ∷ []) []) y
+    ap (λ m. filter p (range_with_len 1 m)) z ∙ ap (filter p) (counting_push 1 k ∙ ap (λ m. range_with_len 1 k ++ m ∷ []) x)
+    ∙ filter-append p (range_with_len 1 k) (suc k ∷ []) ∙ ap (λ m. filter p (range_with_len 1 m) ++ cond (p (suc k)) (suc k ∷ []) []) y
 
 joined_append : {A B : Type 0} (f : A → List B) (xs ys : List A) → flat_map f (xs ++ ys) ≡ flat_map f xs ++ flat_map f ys
 joined_append f [] ys = refl
 joined_append f (x ∷ xs) ys = ap (λ l. f x ++ l) (joined_append f xs ys) ∙ sym (append_assoc (f x) (flat_map f xs) (flat_map f ys))
 
-pub joined_more : (f : ℕ → List ℕ) (k : ℕ) → 1 ≤ k → flat_map f (range_with_len 1 (k + 1 - 1)) ≡ flat_map f (range_with_len 1 (k - 1)) ++ f k
-joined_more f zero lo = absurd (omega arith)
-joined_more f (suc k) lo =
-    let z : suc k + 1 - 1 ≡ suc k = omega arith in
+pub joined_more : (f : ℕ → List ℕ) (k n : ℕ) → 1 ≤ k → k ≡ n → flat_map f (range_with_len 1 n) ≡ flat_map f (range_with_len 1 (k - 1)) ++ f k
+joined_more f zero n lo e = absurd (omega arith)
+joined_more f (suc k) n lo e =
+    let z : n ≡ suc k = omega arith in
     let y : k ≡ suc k - 1 = omega arith in
     let x : 1 + k ≡ suc k = omega arith in
-    ap (λ n. flat_map f (range_with_len 1 n)) z ∙ ap (flat_map f) (counting_push 1 k ∙ ap (λ n. range_with_len 1 k ++ n ∷ []) x)
+    ap (λ m. flat_map f (range_with_len 1 m)) z ∙ ap (flat_map f) (counting_push 1 k ∙ ap (λ m. range_with_len 1 k ++ m ∷ []) x)
     ∙ joined_append f (range_with_len 1 k) (suc k ∷ []) ∙ ap (λ l. flat_map f (range_with_len 1 k) ++ l) (append-nil (f (suc k)))
-    ∙ ap (λ n. flat_map f (range_with_len 1 n) ++ f (suc k)) y
+    ∙ ap (λ m. flat_map f (range_with_len 1 m) ++ f (suc k)) y
 
-module _ (net : Net) (t : Tour) (k l : ℕ) (l1 : 1 ≤ l) where
+module _ (net : Net) (t : Tour) (k l n : ℕ) (l1 : 1 ≤ l) (same : l ≡ n) where
   -- the links that are ranked when link l is asked for lower rank k
   abbrev so_far : List ℕ
   so_far = (t.starts ++ flat_map (others_at net t) (range_with_len 1 (k - 1))) ++ filter (ranks_at net t k) (range_with_len 1 (l - 1))
@@ -101,12 +101,12 @@ module _ (net : Net) (t : Tour) (k l : ℕ) (l1 : 1 ≤ l) where
   -- one link more
   pub rank_more : (xs ys : List ℕ) → xs ≡ so_far
       → ys ≡ cond (eqb (lower_rank_of t.order (ends_of net l)) k && not (is_some (rank_in xs l))) (xs ++ l ∷ []) xs
-      → ys ≡ (t.starts ++ flat_map (others_at net t) (range_with_len 1 (k - 1))) ++ filter (ranks_at net t k) (range_with_len 1 (l + 1 - 1))
+      → ys ≡ (t.starts ++ flat_map (others_at net t) (range_with_len 1 (k - 1))) ++ filter (ranks_at net t k) (range_with_len 1 n)
   rank_more xs ys e f =
       f ∙ ap (λ zs. cond (eqb (lower_rank_of t.order (ends_of net l)) k && not (is_some (rank_in zs l))) (zs ++ l ∷ []) zs) e
       ∙ ap (λ b. cond b (so_far ++ l ∷ []) so_far) same_test ∙ by (ranks_at net t k l)
       ∙ append_assoc (t.starts ++ flat_map (others_at net t) (range_with_len 1 (k - 1))) (filter (ranks_at net t k) (range_with_len 1 (l - 1))) (cond (ranks_at net t k l) (l ∷ []) [])
-      ∙ ap (λ zs. (t.starts ++ flat_map (others_at net t) (range_with_len 1 (k - 1))) ++ zs) (sym (kept_more (ranks_at net t k) l l1))
+      ∙ ap (λ zs. (t.starts ++ flat_map (others_at net t) (range_with_len 1 (k - 1))) ++ zs) (sym (kept_more (ranks_at net t k) l n l1 same))
     where
       by : (b : Bool) → cond b (so_far ++ l ∷ []) so_far ≡ so_far ++ cond b (l ∷ []) []
       by true = refl

@@ -8,4 +8,5 @@ mod Copied
 mod Steps
 mod Filled
 mod Starts
+mod Served
 pub mod Whole

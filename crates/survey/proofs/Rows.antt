@@ -1,16 +1,15 @@
--- The tables of a ranking: its numbers, and their ranks.
-use Rattle.std.proofs.Common.{◌≡◌, ℕ, zero, suc, ◌+◌, ◌-◌, ◌<◌, ◌≤◌, true, not, ◌&&◌, leb, ◌⊎◌, List, [], ◌∷◌, ◌++◌, map, length, get_or, take, set, replicate, is_some, Some, None, Option, sym, refl, ap, ◌∙◌, inl, inr, arith}
-use native.Mathlib.Decide.{ℕ_discrete}
-use Rattle.std.specs.List.{AllByRecursion}
-use Rattle.std.proofs.lemmas.List.{length-set, length-take-le, get_or-take, get_or-map, length-map, map-append, get_or-set_same, get_or-set_other, ext_get_or, length-replicate, get_or-replicate, take_more_set}
-use Rattle.std.proofs.lemmas.List.FromFn.{length-map-range_with_len, get_or-map-range_with_len}
+-- The numbers of a ranking, and their ranks.
+use Rattle.std.proofs.Common.{◌≡◌, ℕ, zero, suc, ◌+◌, ◌<◌, ◌≤◌, true, not, ◌&&◌, leb, List, [], ◌∷◌, ◌++◌, map, length, take, set, is_some, Some, None, Option, refl, ap, ◌∙◌, arith, option_map, slice_get, position, eqb, cond, Bool, false}
+use Rattle.std.specs.List.{AllByRecursion, position_from}
+use Rattle.std.proofs.lemmas.Iterator.Adapters.{position_from-zero}
+use Rattle.std.proofs.lemmas.List.{length-take-le, length-map, map-append, take_more_set}
 use Rattle.std.proofs.lemmas.Bool.{and_parts, and_from, leb-true, le-leb}
 use Rattle.net.specs.Nets.{nth}
-use Rattle.net.proofs.Numbered.{nth_past, nth_append_left}
+use Rattle.net.proofs.Numbered.{nth_append_left}
 use Rattle.survey.specs.declared.ranking.Ranking.{Ranking}
 use Rattle.survey.specs.Listed.{listed}
-use Rattle.survey.specs.Ranks.{rank_in, number_at_rank, rank_table, in_range, distinct}
-use Rattle.survey.proofs.Ranked.{some_or_none, rank_place, rank_push, rank_push_other, NoRepeat, norepeat_push}
+use Rattle.survey.specs.Ranks.{rank_in, number_at_rank, in_range, distinct}
+use Rattle.survey.proofs.Ranked.{NoRepeat, norepeat_push}
 use Rattle.survey.proofs.Marked.{Within, missing_fits}
 
 -- the two tests say what they test
@@ -42,64 +41,32 @@ once_distinct [] h = refl
 once_distinct (x ∷ xs) h =
     and_from (not (is_some (rank_in xs x))) (distinct xs) (ap (λ o. not (is_some o)) h.0) (once_distinct xs h.1)
 
--- a number out of range has no rank
-pub outside_rank : (n : ℕ) (xs : List ℕ) (x : ℕ) → in_range n xs ≡ true → ¬ Within n x → rank_in xs x ≡ None
-outside_rank n xs x h out = elim (some_or_none (rank_in xs x)) [
-  | inl (k, e) ↦ absurd (out (within xs k (range_within n xs h) (rank_place xs x k e)))
-  | inr e ↦ e
-]
+-- the rank of a number is one more than how many stand before it
+ranks_moved : (i : ℕ) (o : Option ℕ) → option_map (λ k. i + 1 + k) o ≡ option_map (λ k. i + k) (option_map suc o)
+ranks_moved i None = refl
+ranks_moved i (Some k) = let z : i + 1 + k ≡ i + suc k = omega arith in ap Some z
+
+ranks_from : (xs : List ℕ) (x i : ℕ) → option_map suc (position_from (eqb x) i xs) ≡ option_map (λ k. i + k) (rank_in xs x)
+ranks_from [] x i = refl
+ranks_from (y ∷ ys) x i = by (eqb x y) (ranks_from ys x (i + 1) ∙ ranks_moved i (rank_in ys x))
   where
-    within : (ys : List ℕ) (k : ℕ) → AllByRecursion (Within n) ys → (1 ≤ k) × (k ≤ length ys) × (nth ys k 0 ≡ x) → Within n x
-    within [] k w p = absurd (omega arith)
-    within (y ∷ ys) zero w p = absurd (omega arith)
-    within (y ∷ ys) (suc zero) w (lo, hi, e) = rw e at w.0
-    within (y ∷ ys) (suc (suc k)) w (lo, hi, e) = within ys (suc k) w.1 (omega arith, omega arith, e)
+    by : (b : Bool) → option_map suc (position_from (eqb x) (i + 1) ys) ≡ option_map (λ k. i + k) (option_map suc (rank_in ys x))
+        → option_map suc (cond b (Some i) (position_from (eqb x) (i + 1) ys)) ≡ option_map (λ k. i + k) (cond b (Some 1) (option_map suc (rank_in ys x)))
+    by true e = let z : suc i ≡ i + 1 = omega arith in ap Some z
+    by false e = e
 
--- the table
-pub length_table : (n : ℕ) (xs : List ℕ) → length (rank_table n xs) ≡ n
-length_table n xs = length-map-range_with_len (rank_in xs) 1 n
-
-pub table_none : (n : ℕ) → replicate n None ≡ rank_table n []
-table_none n = ext_get_or None (replicate n None) (rank_table n []) (length-replicate n None ∙ sym (length_table n []))
-    (λ i h.
-    let lt : i < n = omega (arith, length-replicate {A = Option ℕ} n None) in
-    get_or-replicate n i None None lt ∙ sym (get_or-map-range_with_len (rank_in []) 1 n i (1 + i) None lt refl))
-
-pub table_read : (n : ℕ) (xs : List ℕ) (x : ℕ) → Within n x → get_or (rank_table n xs) (x - 1) None ≡ rank_in xs x
-table_read n xs x w = get_or-map-range_with_len (rank_in xs) 1 n (x - 1) x None (omega arith) (omega arith)
-
-pub table_push : (n : ℕ) (xs : List ℕ) (x k : ℕ) → Within n x → rank_in xs x ≡ None → length xs ≡ k
-    → set (rank_table n xs) (x - 1) (Some (k + 1)) ≡ rank_table n (xs ++ x ∷ [])
-table_push n xs x k w new e =
-    ext_get_or None (set (rank_table n xs) (x - 1) (Some (k + 1))) (rank_table n (xs ++ x ∷ []))
-    (length-set (rank_table n xs) (x - 1) (Some (k + 1)) ∙ length_table n xs ∙ sym (length_table n (xs ++ x ∷ [])))
-    (λ i h. by i (rw (length-set (rank_table n xs) (x - 1) (Some (k + 1)), length_table n xs) at h))
+pub rank_placed : (xs : List ℕ) (x : ℕ) → option_map suc (position (eqb x) xs) ≡ rank_in xs x
+rank_placed xs x = ap (option_map suc) (position_from-zero (eqb x) xs) ∙ ranks_from xs x 0 ∙ same (rank_in xs x)
   where
-    by : (i : ℕ) → i < n → get_or (set (rank_table n xs) (x - 1) (Some (k + 1))) i None ≡ get_or (rank_table n (xs ++ x ∷ [])) i None
-    by i lt = elim (ℕ_discrete i (x - 1)) [
-      | yes p ↦
-          let z : suc (length xs) ≡ k + 1 = omega arith in
-          rw p (get_or-set_same (rank_table n xs) (x - 1) (Some (k + 1)) None (rw (length_table n xs) (omega arith))
-          ∙ sym (table_read n (xs ++ x ∷ []) x w ∙ rank_push xs x new ∙ ap Some z))
-      | no ne ↦
-          get_or-set_other (rank_table n xs) (x - 1) i (Some (k + 1)) None ne
-          ∙ get_or-map-range_with_len (rank_in xs) 1 n i (suc i) None lt (omega arith)
-          ∙ sym (rank_push_other xs (suc i) x (omega arith))
-          ∙ sym (get_or-map-range_with_len (rank_in (xs ++ x ∷ [])) 1 n i (suc i) None lt (omega arith))
-    ]
+    same : (o : Option ℕ) → option_map (λ k. 0 + k) o ≡ o
+    same None = refl
+    same (Some k) = let z : 0 + k ≡ k = omega arith in ap Some z
 
 -- the number of a rank
-pub front_at_rank : (xs : List ℕ) (n k : ℕ) → n ≤ length xs → 1 ≤ k → k ≤ n → Some (get_or xs (k - 1) 0) ≡ number_at_rank (take n xs) k
-front_at_rank xs n zero nl lo hi = absurd (omega arith)
-front_at_rank xs n (suc k) nl lo hi =
-    let z : suc k - 1 ≡ k = omega arith in
-    ap (λ j. Some (get_or xs j 0)) z ∙ ap Some (sym (get_or-take n xs k 0 (omega arith)))
-    ∙ sym (get_or-map Some (take n xs) k 0 None (rw (length-take-le n xs nl) (omega arith)))
-
-pub no_rank_at : (xs : List ℕ) (k : ℕ) → (k < 1) ⊎ (length xs < k) → None ≡ number_at_rank xs k
-no_rank_at xs zero h = refl
-no_rank_at xs (suc k) (inl h) = absurd (omega arith)
-no_rank_at xs (suc k) (inr h) = sym (nth_past (map Some xs) (suc k) None (rw (length-map xs Some) h))
+pub number_placed : (xs : List ℕ) (k : ℕ) → slice_get xs k ≡ number_at_rank xs (suc k)
+number_placed [] k = refl
+number_placed (x ∷ xs) zero = refl
+number_placed (x ∷ xs) (suc k) = number_placed xs k
 
 pub length_listed : {N : ℕ} (r : Ranking N) → length (listed r) ≡ r.count
 length_listed r = length-take-le r.count r.items (omega arith)
@@ -117,9 +84,6 @@ module _ {N : ℕ} (r : Ranking N) (x : ℕ) (w : Within N x) (new : rank_in (li
 
   pub add_once : distinct (take (r.count + 1) (set r.items r.count x)) ≡ true
   add_once = rw add_last (once_distinct (listed r ++ x ∷ []) (norepeat_push (listed r) x (distinct_once (listed r) r.once) new))
-
-  pub add_tied : set r.ranks (x - 1) (Some (r.count + 1)) ≡ rank_table N (take (r.count + 1) (set r.items r.count x))
-  add_tied = rw (add_last, r.tied) (table_push N (listed r) x r.count w new (length_listed r))
 
 pub within_range : (m n : ℕ) (xs : List ℕ) → m ≤ n → AllByRecursion (Within m) xs → in_range n xs ≡ true
 within_range m n [] le h = refl

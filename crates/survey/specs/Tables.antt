@@ -1,5 +1,4 @@
 -- What the tables of a survey hold. Assumes nothing.
-use Rattle.std.specs.Prelude.{take}
 use Rattle.net.specs.Nets.{Net}
 use Rattle.survey.specs.declared.copy.NetCopy.{NetCopy}
 use Rattle.survey.specs.declared.tour.TourTables.{TourTables}
@@ -13,4 +12,4 @@ copied n = table_net n.bars n.links n.ends
 
 -- The tour that the tables hold.
 abbrev pub toured : TourTables → Tour
-toured t = record { order = listed t.order; starts = take t.count t.starts }
+toured t = record { order = listed t.order; starts = t.starts.items }

@@ -6,6 +6,7 @@ ghost use Rattle.survey.specs.Copies.{table_net};
 mod methods;
 
 // A net within the limits.
+// An array and a count: a surveyed net is copied, and the library's vector of fixed capacity is not.
 #[derive(Clone, Copy)]
 pub(crate) struct NetCopy {
     bars: u32,

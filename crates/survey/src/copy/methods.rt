@@ -9,6 +9,7 @@ ghost use Rattle.survey.specs.Visits.{across};
 use super::NetCopy;
 use faults::NetFault;
 use net::NetSource;
+use std::array;
 
 impl NetCopy {
     // The net of a source that is within the limits; else the first question that is answered no.
@@ -16,12 +17,9 @@ impl NetCopy {
         ensures { MatchResult result (λ n. copied n ≡ S.meaning source.now) (λ f. Surveys (S.meaning source.now) (Err (Net f))) }
     {
         net::check(source)?;
-        let links = source.links() as u32;
-        let mut ends = [None; 60];
-        for link in 0..links {
-            ends[link as usize] = source.ends(u64::from(link) + 1);
-        }
         let bars = source.bars();
+        let links = source.links() as u32;
+        let ends = array::from_fn(|at| source.ends(at as u64 + 1));
         Ok(NetCopy { bars, links, ends })
     }
 
@@ -43,10 +41,8 @@ impl NetCopy {
     pub(crate) fn ends(&self, link: u64) -> Option<(u32, u32)>
         ensures { result ≡ ends_of (copied self.now) link }
     {
-        if link < 1 || link > u64::from(self.links) {
-            return None;
-        }
-        self.ends[link as usize - 1]
+        let place = link.checked_sub(1)?;
+        *self.ends[..self.links as usize].get(place as usize)?
     }
 
     // The bar at the other end of a link from this bar; none where the link has no end here.

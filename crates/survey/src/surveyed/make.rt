@@ -51,7 +51,7 @@ fn whole_tour(net: &NetCopy) -> TourTables
 fn check_visited(net: &NetCopy, visited: &TourTables) -> Result<(), SurveyFault>
     ensures { MatchResult result (λ _. VisitedBelow (toured visited.now) ((copied net.now).bars + 1)) (λ f. NotVisited (copied net.now) (toured visited.now) f) }
 {
-    for bar in 1..net.bars() + 1 {
+    for bar in 1..=net.bars() {
         if visited.rank_of(u64::from(bar)).is_none() {
             return Err(SurveyFault::Unreached(u64::from(bar)));
         }

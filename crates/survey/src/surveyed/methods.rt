@@ -1,5 +1,6 @@
 // What a surveyed net answers.
-ghost use Rattle.std.specs.Prelude.{◌≡◌};
+ghost use Rattle.std.specs.Prelude.{◌≡◌, Decides};
+ghost use Rattle.net.specs.Nets.{InService};
 ghost use Rattle.survey.specs.Ranks.{rank_in, number_at_rank};
 ghost use Rattle.survey.specs.Surveys.{bar_order, start_links, link_order};
 ghost use Rattle.survey.specs.Answers.{net_of};
@@ -24,6 +25,7 @@ impl NetSource for Surveyed {
     }
 }
 
+// The same few questions of bars, start links and links: each is a name and a line over the one ranking for any number of items.
 impl Surveyed {
     // The start link of a rank, 1 up to one fewer than the bars.
     pub fn start_link(&self, rank: usize) -> Option<u32>
@@ -58,5 +60,33 @@ impl Surveyed {
         ensures { result ≡ number_at_rank (link_order (net_of self.now)) rank }
     {
         self.links.at_rank(rank)
+    }
+
+    // The start links by rank.
+    pub fn start_links(&self) -> &[u32]
+        ensures { result.now ≡ start_links (net_of self.now) }
+    {
+        self.starts.as_slice()
+    }
+
+    // The bars by rank.
+    pub fn bars_by_rank(&self) -> &[u32]
+        ensures { result.now ≡ bar_order (net_of self.now) }
+    {
+        self.bars.as_slice()
+    }
+
+    // The links in service by rank.
+    pub fn links_by_rank(&self) -> &[u32]
+        ensures { result.now ≡ link_order (net_of self.now) }
+    {
+        self.links.as_slice()
+    }
+
+    // Whether a link is in service; no for what is no link.
+    pub fn is_in_service(&self, link: u64) -> bool
+        ensures { Decides result (InService (net_of self.now) link) }
+    {
+        self.ends(link).is_some()
     }
 }

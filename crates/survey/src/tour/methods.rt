@@ -6,6 +6,7 @@ ghost use Rattle.survey.specs.Tables.{toured};
 
 use super::TourTables;
 use crate::ranking::Ranking;
+use arrayvec::ArrayVec;
 
 impl TourTables {
     // The tour on which only this bar was visited.
@@ -18,8 +19,7 @@ impl TourTables {
         order.add(bar);
         TourTables {
             order,
-            starts: [0; 32],
-            count: 0,
+            starts: ArrayVec::new(),
         }
     }
 
@@ -31,9 +31,7 @@ impl TourTables {
         ensures { toured self.new ≡ found (toured self.old) bar link }
     {
         self.order.add(bar);
-        let at = self.count;
-        self.starts[at] = link;
-        self.count = at + 1;
+        self.starts.push(link);
     }
 
     // The rank of a bar, if it was visited.
@@ -54,6 +52,6 @@ impl TourTables {
     pub(crate) fn starts(&self) -> &[u32]
         ensures { result.now ≡ (toured self.now).starts }
     {
-        &self.starts[0..self.count]
+        self.starts.as_slice()
     }
 }

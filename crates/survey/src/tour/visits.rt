@@ -12,8 +12,8 @@ pub(crate) fn visit_bar(net: &NetCopy, bar: u32, tour: &mut TourTables)
     ensures after { (n : ℕ) → 32 - length (toured tour.old).order ≤ n → toured tour.new ≡ visit (suc n) (copied net.now) bar (toured tour.old) }
     ensures grows { length (toured tour.old).order ≤ length (toured tour.new).order }
 {
-    for done in 0..net.links() {
-        look_at_link(net, bar, done + 1, tour);
+    for link in 1..=net.links() {
+        look_at_link(net, bar, link, tour);
     }
 }
 

@@ -1,4 +1,4 @@
-use Rattle.std.proofs.Common.{◌≡◌, ◌-◌, ◌++◌, filter}
+use Rattle.std.proofs.Common.{◌≡◌, ◌+◌, ◌-◌, ◌≤◌, ◌++◌, length, filter}
 use Rattle.std.specs.List.{range_with_len}
 use Rattle.survey.specs.Listed.{listed}
 use Rattle.survey.specs.Tables.{copied, toured}
@@ -8,4 +8,5 @@ use Rattle.survey.proofs.links.rank_others.Given as goal
 -- of the links below, those that belong here are ranked
 abbrev pub invariant-loop-link : goal.invariant-loop-link
 invariant-loop-link l =
-    listed l.links ≡ listed l.initial.links ++ filter (ranks_at (copied l.net) (toured l.tour) l.rank) (range_with_len 1 (l.link - 1))
+    (l.link ≤ length (copied l.net).links + 1)
+    × (listed l.links ≡ listed l.initial.links ++ filter (ranks_at (copied l.net) (toured l.tour) l.rank) (range_with_len 1 (l.link - 1)))

@@ -1,4 +1,4 @@
-use Rattle.std.proofs.Common.{◌≡◌, ℕ, suc, ◌<◌, length, Some, None, sym, ap, ◌∙◌, arith}
+use Rattle.std.proofs.Common.{◌≡◌, ℕ, suc, ◌+◌, ◌-◌, ◌<◌, length, Some, None, sym, ap, ◌∙◌, arith}
 use Rattle.std.proofs.lemmas.List.{length_push}
 use Rattle.net.specs.Nets.{ends_of}
 use Rattle.net.proofs.Tested.{tested_within}
@@ -69,16 +69,17 @@ look_at_link-returns t c =
       grows = omega (arith, e, c.visit_bar.ensures.grows, length_push (listed c.args.tour.now.order) c.in-Some.other);
     }
 
-pub visit_bar-loop-done-init : goal.visit_bar-loop-done-init
-visit_bar-loop-done-init t c = (omega arith, λ n h. looks_none (copied c.args.net.now) c.args.bar n (toured c.args.tour.now))
+pub visit_bar-loop-link-init : goal.visit_bar-loop-link-init
+visit_bar-loop-link-init t c = (omega arith, omega arith, λ n h. looks_none (copied c.args.net.now) c.args.bar n (toured c.args.tour.now))
 
-pub visit_bar-look_at_link-requires : goal.visit_bar-look_at_link-requires
-visit_bar-look_at_link-requires t c = (omega (arith, c.loop-done.invariant.0, c.decreases), tt)
+pub visit_bar-returns-clause-after : goal.visit_bar-returns-clause-after
+visit_bar-returns-clause-after t c = λ n h.
+    let z : c.loop-link.link - 1 ≡ length (copied c.args.net.now).links = omega (arith, c.loop-link-test.false, c.loop-link.invariant.0) in
+    c.loop-link.invariant.2 n h ∙ looks_all (copied c.args.net.now) c.args.bar n (c.loop-link.link - 1) (toured c.args.tour.now) z
 
-pub visit_bar-returns : goal.visit_bar-returns
-visit_bar-returns t c =
-    let z : c.loop-done.done ≡ length (copied c.args.net.now).links = omega arith in
-    record {
-      after = λ n h. c.loop-done.invariant.1 n h ∙ looks_all (copied c.args.net.now) c.args.bar n c.loop-done.done (toured c.args.tour.now) z;
-      grows = c.loop-done.invariant.0;
-    }
+pub visit_bar-returns-2-clause-after : goal.visit_bar-returns-2-clause-after
+visit_bar-returns-2-clause-after t c = λ n h.
+    let z : c.loop-link.link ≡ c.loop-link.link - 1 + 1 = omega (arith, c.loop-link.auto.link) in
+    let y : c.loop-link.link - 1 + 1 ≡ length (copied c.args.net.now).links = omega (arith, c.loop-link-test.true, c.loop-link.auto.link) in
+    c.look_at_link.ensures.after n (c.loop-link.link - 1) (toured c.args.tour.now) z (omega (arith, h, c.loop-link.invariant.1)) (c.loop-link.invariant.2 n h)
+    ∙ looks_all (copied c.args.net.now) c.args.bar n (c.loop-link.link - 1 + 1) (toured c.args.tour.now) y

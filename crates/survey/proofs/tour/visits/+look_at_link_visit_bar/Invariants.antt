@@ -10,8 +10,9 @@ decreases-look_at_link l = (32 - length (toured l.tour.now).order) * 2
 abbrev pub decreases-visit_bar : goal.decreases-visit_bar
 decreases-visit_bar l = (32 - length (toured l.tour.now).order) * 2 + 1
 
--- so many links were looked at
-abbrev pub invariant-visit_bar-loop-done : goal.invariant-visit_bar-loop-done
-invariant-visit_bar-loop-done l =
-    (length (toured l.initial.tour).order ≤ length (toured l.tour).order)
-    × ((n : ℕ) → 32 - length (toured l.initial.tour).order ≤ n → toured l.tour ≡ looks n (copied l.net) l.bar (toured l.initial.tour) l.done)
+-- the links below were looked at
+abbrev pub invariant-visit_bar-loop-link : goal.invariant-visit_bar-loop-link
+invariant-visit_bar-loop-link l =
+    (l.link ≤ length (copied l.net).links + 1)
+    × (length (toured l.initial.tour).order ≤ length (toured l.tour).order)
+    × ((n : ℕ) → 32 - length (toured l.initial.tour).order ≤ n → toured l.tour ≡ looks n (copied l.net) l.bar (toured l.initial.tour) (l.link - 1))
