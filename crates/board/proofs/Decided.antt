@@ -1,5 +1,5 @@
 -- What is asked of a setting can be decided, and so taken out of a board's invariant.
-use Rattle.std.proofs.Common.{◌≡◌, ℕ, zero, suc, ◌+◌, ◌≤◌, length, Some, None, Option, refl, inl, inr, arith}
+use Rattle.std.proofs.Common.{◌≡◌, ℕ, zero, suc, ◌+◌, ◌≤◌, length, Some, None, Option, sym, refl, subst, inl, inr, arith}
 use mathlib.Core.HLevel.{⊥_prop}
 use mathlib.Core.Logic.Dec
 use mathlib.Core.Logic.{∥∥₁_elim}
@@ -9,6 +9,8 @@ use Rattle.net.specs.Settings.{Setting, Closed, opening, closed_links, Reach, Ra
 use Rattle.net.specs.Limits.{WithinLimits}
 use Rattle.net.proofs.Links.{out_of_service}
 use Rattle.net.proofs.Settings.{closed_or_open, closed_range, not_from_open}
+use Rattle.survey.specs.declared.surveyed.Surveyed.{Surveyed}
+use Rattle.survey.specs.Answers.{net_of}
 use Rattle.survey.proofs.Whole.{surveyed_fits}
 use Rattle.trees.specs.Listings.{fed}
 use Rattle.trees.proofs.Floods.{marked_reached, reached_marked}
@@ -52,13 +54,17 @@ module _ (net : Net) (fit : WithinLimits net) (T : Setting) where
       (λ r. (r.one_a_link, (r.in_service, (r.one_fewer, r.all_reached))))
       (Dec.and (ℕ_discrete (length T) (length net.links)) (Dec.and dec_served (Dec.and (ℕ_discrete (closed_links T + 1) net.bars) dec_fed)))
 
+-- the same net and the same setting
+pub radial_of : {s s' : Surveyed} {T T' : Setting} → s' ≡ s → T' ≡ T → Radial (net_of s) T → Radial (net_of s') T'
+radial_of {s} {s'} {T} {T'} e f r = subst (λ s. Radial (net_of s) T') (sym e) (subst (Radial (net_of s)) (sym f) r)
+
 take_out : {P : Type 0} → Dec P → ∥ P ∥₁ → P
 take_out (yes p) t = p
 take_out (no n) t = absurd (∥∥₁_elim t ⊥_prop n)
 
 -- the setting of a board is radial
 pub board_radial : (b : Board) → Radial (board_net b) (setting_of b)
-board_radial b = take_out (dec_radial (board_net b) (surveyed_fits b.site) (setting_of b)) b.radial
+board_radial b = take_out (dec_radial (board_net b) (surveyed_fits b.switches.site) (setting_of b)) b.radial
 
 -- a setting looped by link g: g is in service and closed, and with g open the setting is radial
 pub record LoopedBy (net : Net) (S : Setting) (g : ℕ) : Type 0 where
@@ -70,5 +76,5 @@ pub board_looped : (s : Looped) → LoopedBy (looped_net s) (looped_setting s) s
 board_looped s = record {
   in_service = take_out (dec_in_service (looped_net s) s.link) s.served;
   closed = s.last;
-  radial = take_out (dec_radial (looped_net s) (surveyed_fits s.site) (setting_before s)) s.radial;
+  radial = take_out (dec_radial (looped_net s) (surveyed_fits s.switches.site) (setting_before s)) s.radial;
 }

@@ -15,7 +15,8 @@ use Rattle.board.specs.declared.boards.Looped.{Looped}
 use Rattle.board.specs.Boards.{looped_net, looped_setting, setting_before}
 use Rattle.board.proofs.Decided.{dec_closed, LoopedBy, board_looped}
 
-put_comm : {A : Type 0} (xs : List A) (i j : ℕ) (x y : A) → i ≢ j → put (put xs i x) j y ≡ put (put xs j y) i x
+-- two writes to different numbers
+pub put_comm : {A : Type 0} (xs : List A) (i j : ℕ) (x y : A) → i ≢ j → put (put xs i x) j y ≡ put (put xs j y) i x
 put_comm xs zero j x y ne = refl
 put_comm xs (suc i) zero x y ne = refl
 put_comm xs (suc i) (suc j) x y ne = set_comm xs i j x y (λ e. ne (ap suc e))
@@ -70,7 +71,7 @@ module _ (net : Net) (S : Setting) (g : ℕ) (looped : LoopedBy net S g) where
 -- the same of a looped board
 module _ (s : Looped) (l : ℕ) where
   pub on_loop_radial : InLoop (looped_net s) (setting_before s) s.link l → Radial (looped_net s) (opening (looped_setting s) l)
-  on_loop_radial = loop_radial (looped_net s) (looped_setting s) s.link (board_looped s) (surveyed_fits s.site) (surveyed_reached s.site) l
+  on_loop_radial = loop_radial (looped_net s) (looped_setting s) s.link (board_looped s) (surveyed_fits s.switches.site) (surveyed_reached s.switches.site) l
 
   pub radial_on_loop : Radial (looped_net s) (opening (looped_setting s) l) → InLoop (looped_net s) (setting_before s) s.link l
-  radial_on_loop = radial_loop (looped_net s) (looped_setting s) s.link (board_looped s) (surveyed_fits s.site) (surveyed_reached s.site) l
+  radial_on_loop = radial_loop (looped_net s) (looped_setting s) s.link (board_looped s) (surveyed_fits s.switches.site) (surveyed_reached s.switches.site) l

@@ -1,4 +1,4 @@
--- What a new board is, and what a board presents. Assumes nothing.
+-- What a new board is. Assumes nothing.
 use Rattle.std.specs.Prelude.{◌≡◌, ℕ, List, Result, MatchResult}
 use Rattle.faults.specs.declared.BoardFault.{BoardFault}
 use Rattle.faults.specs.declared.BoardFault.TheVariants.{RowLength, NotInService, NotOpen, OffLoop, NotRadial}
@@ -7,12 +7,15 @@ use Rattle.net.specs.Settings.{Radial}
 use Rattle.survey.specs.declared.surveyed.Surveyed.{Surveyed}
 use Rattle.survey.specs.Answers.{net_of}
 use Rattle.board.specs.declared.boards.Board.{Board}
-use Rattle.board.specs.Rows.{OneALink, setting_in, row_of}
-use Rattle.board.specs.Boards.{board_net, setting_of}
+use Rattle.flood.specs.declared.switches.Switches.{Switches}
+use Rattle.flood.specs.Marked.{switched}
+use Rattle.flood.specs.Rows.{OneALink}
+use Rattle.board.specs.Rows.{setting_in}
+use Rattle.board.specs.Boards.{setting_of}
 
 -- The board of a radial row.
 pub record BoardOf (site : Surveyed) (row : List ℕ) (b : Board) : Type 0 where
-  pub same_site : b.site ≡ site
+  pub same_site : b.switches.site ≡ site
   pub setting : setting_of b ≡ setting_in row
   pub radial : Radial (net_of site) (setting_in row)
 
@@ -28,8 +31,8 @@ NoBoard net row (OffLoop l) = ⊥
 abbrev pub Makes : Surveyed → List ℕ → Result Board BoardFault → Type 0
 Makes site row r = MatchResult r (BoardOf site row) (NoBoard (net_of site) row)
 
--- A row of one byte a link takes the board's setting; any other is refused and stays as it was.
-abbrev pub Presents : Board → List ℕ → Result (Unit {0}) BoardFault → List ℕ → Type 0
-Presents b row r row' = MatchResult r
-    (λ _. OneALink (board_net b) row × (row' ≡ row_of (setting_of b)))
-    (λ f. (¬ OneALink (board_net b) row) × (f ≡ RowLength) × (row' ≡ row))
+-- The board of switches whose closed links form a radial setting; any others are refused.
+abbrev pub MakesOf : Switches → Result Board BoardFault → Type 0
+MakesOf s r = MatchResult r
+    (λ b. (b.switches ≡ s) × Radial (net_of s.site) (switched s))
+    (λ f. (f ≡ NotRadial) × (¬ Radial (net_of s.site) (switched s)))

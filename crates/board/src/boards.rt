@@ -2,10 +2,9 @@
 ghost use Rattle.net.specs.Nets.{InService};
 ghost use Rattle.net.specs.Settings.{Closed, opening, Radial};
 ghost use Rattle.survey.specs.Answers.{net_of};
-ghost use Rattle.flood.specs.Marked.{row_in};
+ghost use Rattle.flood.specs.Marked.{switched};
 
-use flood::Marks;
-use survey::Surveyed;
+use flood::Switches;
 
 mod loops;
 mod switches;
@@ -13,17 +12,15 @@ mod switches;
 // A radial setting of a surveyed net.
 #[derive(Drop)]
 pub struct Board {
-    site: Surveyed,
-    closed: Marks<60>,
-    ghost radial: { ∥ Radial (net_of site) (row_in (net_of site) closed) ∥₁ },
+    switches: Switches,
+    ghost radial: { ∥ Radial (net_of switches.site) (switched switches) ∥₁ },
 }
 
 // A radial setting with one link more closed. It can't be dropped: it must be split or undone.
 pub struct Looped {
-    site: Surveyed,
-    closed: Marks<60>,
+    switches: Switches,
     link: u64,
-    ghost served: { ∥ InService (net_of site) link ∥₁ },
-    ghost last: { Closed (row_in (net_of site) closed) link },
-    ghost radial: { ∥ Radial (net_of site) (opening (row_in (net_of site) closed) link) ∥₁ },
+    ghost served: { ∥ InService (net_of switches.site) link ∥₁ },
+    ghost last: { Closed (switched switches) link },
+    ghost radial: { ∥ Radial (net_of switches.site) (opening (switched switches) link) ∥₁ },
 }

@@ -1,8 +1,12 @@
-// Rows of bytes, read and written.
-ghost use Rattle.std.specs.Prelude.{◌≡◌, ◌≤◌, length, take};
-ghost use Rattle.board.specs.Rows.{is_closing_byte, setting_in, row_of};
+// Rows of bytes, read.
+ghost use Rattle.std.specs.Prelude.{◌≡◌};
+ghost use Rattle.survey.specs.Answers.{net_of};
+ghost use Rattle.flood.specs.Marked.{switched};
+ghost use Rattle.flood.specs.Rows.{OneALink};
+ghost use Rattle.board.specs.Rows.{is_closing_byte, setting_in};
 
-use flood::Marks;
+use flood::Switches;
+use survey::Surveyed;
 
 // Whether a byte means closed.
 fn means_closed(byte: u8) -> bool
@@ -12,23 +16,14 @@ fn means_closed(byte: u8) -> bool
 }
 
 // The setting of a row.
-pub(crate) fn read_row(row: &[u8]) -> Marks<60>
-    requires { length row.now ≤ 60 }
-    ensures { take (length row.now) result.marked ≡ setting_in row.now }
+pub(crate) fn read_row(site: &Surveyed, row: &[u8]) -> Switches
+    requires { OneALink (net_of site.now) row.now }
+    ensures site { result.site ≡ site.now }
+    ensures row { switched result ≡ setting_in row.now }
 {
-    let mut closed = Marks::new();
+    let mut switches = Switches::new(site);
     for (at, byte) in row.iter().enumerate() {
-        closed.put(at as u64 + 1, means_closed(*byte));
+        switches.put(at as u64 + 1, means_closed(*byte));
     }
-    closed
-}
-
-// Writes a setting into a row.
-pub(crate) fn write_row(closed: &Marks<60>, row: &mut [u8])
-    requires { length row.old ≤ 60 }
-    ensures { row.new ≡ row_of (take (length row.old) closed.now.marked) }
-{
-    for at in 0..row.len() {
-        row[at] = u8::from(closed.has(at as u64 + 1));
-    }
+    switches
 }

@@ -1,1 +1,3 @@
 pub mod Sweeps
+pub mod Ranges
+pub mod Lengths

@@ -1,6 +1,6 @@
 -- Sweeps over the links, done link by link.
 use Rattle.std.proofs.Common.{◌≡◌, ℕ, zero, suc, ◌+◌, ◌-◌, ◌<◌, ◌≤◌, Bool, true, false, cond, List, [], ◌∷◌, length, get_or, take, replicate, Some, None, Option, sym, refl, ap, ◌∙◌, ap₂, arith}
-use Rattle.std.proofs.lemmas.List.{length-take-le, get_or-take}
+use Rattle.std.proofs.lemmas.List.{length-take, length-take-le, take_all, take-replicate, get_or-take}
 use Rattle.net.specs.Nets.{nth, put, Net, ends_of, infeed}
 use Rattle.net.specs.Limits.{WithinLimits}
 use Rattle.net.proofs.Numbered.{put_first, nth_first}
@@ -27,13 +27,20 @@ sweeps_still zero net T M e = refl
 sweeps_still (suc n) net T M e = ap (sweeps n net T) e ∙ sweeps_still n net T M e
 
 -- the same of a net and of a table that holds its setting
-pub sweep_on : (net : Net) (xs M : List Bool) (i : ℕ) → i < length net.links → length net.links ≤ length xs
-    → sweep (take (i + 1) net.links) (take (i + 1) (take (length net.links) xs)) M
-    ≡ touch (ends_of net (i + 1)) (nth xs (i + 1) false) (sweep (take i net.links) (take i (take (length net.links) xs)) M)
-sweep_on net xs M i h k =
-    let e : i + 1 ≡ suc i = omega arith in
+pub sweep_on : (net : Net) (xs M : List Bool) (l : ℕ) → 1 ≤ l → l ≤ length net.links → length net.links ≤ length xs
+    → sweep (take l net.links) (take l (take (length net.links) xs)) M
+    ≡ touch (ends_of net l) (nth xs l false) (sweep (take (l - 1) net.links) (take (l - 1) (take (length net.links) xs)) M)
+sweep_on net xs M zero lo h k = absurd (omega arith)
+sweep_on net xs M (suc i) lo h k =
+    let e : suc i - 1 ≡ i = omega arith in
     rw e (sweep_more net.links (take (length net.links) xs) M i h (omega (arith, length-take-le (length net.links) xs k))
     ∙ ap (λ c. touch (get_or net.links i None) c (sweep (take i net.links) (take i (take (length net.links) xs)) M)) (get_or-take (length net.links) xs i false h))
+
+-- every link was swept
+pub swept_all : (net : Net) (xs M : List Bool) (n : ℕ) → length net.links ≤ n
+    → sweep (take n net.links) (take n (take (length net.links) xs)) M ≡ sweep net.links (take (length net.links) xs) M
+swept_all net xs M n h =
+    ap₂ (λ ls T. sweep ls T M) (take_all n net.links h) (take_all n (take (length net.links) xs) (omega (arith, length-take (length net.links) xs)))
 
 -- the ends of links are among the first n numbers
 abbrev EndsTo : ℕ → List (Option (ℕ × ℕ)) → Type 0
@@ -64,10 +71,11 @@ sweeps_first : (n k : ℕ) (net : Net) (T M : List Bool) → EndsTo n net.links 
 sweeps_first n zero net T M h = refl
 sweeps_first n (suc k) net T M h = sweeps_first n k net T (sweep net.links T M) h ∙ ap (sweeps k net T) (sweep_first n net.links T M h)
 
-pub take_replicate : (n m : ℕ) → n ≤ m → take n (replicate m false) ≡ replicate n false
-take_replicate zero m h = refl
-take_replicate (suc n) zero h = absurd (omega arith)
-take_replicate (suc n) (suc m) h = ap (λ zs. false ∷ zs) (take_replicate n m (omega arith))
+-- the first n of a table of links all of which are open
+pub first_open : (marked : List Bool) (n : ℕ) → marked ≡ replicate 60 false → n ≤ 60 → take n marked ≡ replicate n false
+first_open marked n e h = ap (take n) e ∙ take-replicate n 60 false h
+
+pub ruleset all_open = (first_open, length-take-le)
 
 -- the flood in a table of 32 bars
 pub flood_first : (net : Net) → WithinLimits net → (T : List Bool)
@@ -76,7 +84,7 @@ flood_first net fit T =
     sweeps_first net.bars net.bars net T (put (replicate 32 false) (infeed net) true)
     (λ i a b e. let (p, q) = fit.ends_are_bars (suc i) a b e in (p.1, q.1))
     ∙ ap (sweeps net.bars net T)
-    (put_first (replicate 32 false) net.bars (infeed net) true ∙ ap (λ M. put M (infeed net) true) (take_replicate net.bars 32 fit.few_bars.1))
+    (put_first (replicate 32 false) net.bars (infeed net) true ∙ ap (λ M. put M (infeed net) true) (take-replicate net.bars 32 false fit.few_bars.1))
 
 -- the sweeps still to be made
 pub sweeps_more : (n k : ℕ) (net : Net) (T M : List Bool) → k < n → sweeps (n - (k + 1)) net T (sweep net.links T M) ≡ sweeps (n - k) net T M

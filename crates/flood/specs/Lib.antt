@@ -1,1 +1,4 @@
 pub mod Marked
+pub mod Rows
+pub mod Ways
+pub mod Closing

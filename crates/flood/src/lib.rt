@@ -1,8 +1,11 @@
-// The bars that a setting feeds from the infeed, found by a flood over its closed links.
+// A surveyed net whose links are switched, and the bars that are fed from the infeed, found by a flood over the closed links.
 #![tactic(auto)]
 
+mod fed;
 mod marks;
-mod sides;
+mod rows;
+mod switches;
+mod ways;
 
 pub use marks::Marks;
-pub use sides::{crosses, flood};
+pub use switches::Switches;

@@ -18,6 +18,7 @@ impl<const N: usize> Marks<N> {
     }
 
     // Whether a number is marked; no for what is none of the numbers.
+    // Two comparisons, here and in `put`: with the range's `contains`, and a match in `touch`, a listing took a tenth longer.
     pub fn has(&self, number: u64) -> bool
         ensures { result ≡ nth self.now.marked number false }
     {

@@ -54,7 +54,7 @@ module _ (c : Course) (out into : ℕ) (ps : List (ℕ × ℕ)) (top : pending_o
         (subst (λ p. Goes net p (B out into) (walking (reversed_by (swapped T out into) ps) (swapped T out into) ps n)) (sym (ap (λ qs. walking (reversed_by T qs) T qs n) top)) back)
 
   pub back_taken : (c' : Course) → ExchangedBy c.board out into c'.board → pending_of c'.pending ≡ ps → c'.shown ≡ c.shown
-      → TakenOn c.board.site (course_place c) (B out into) (Walking c')
+      → TakenOn c.board.switches.site (course_place c) (B out into) (Walking c')
   back_taken c' x popped same = record {
     same_site = x.same_site;
     goes = subst (Goes (board_net c.board) (course_place c) (B out into)) (sym (ap₂ (λ qs n. walking (reversed_by (setting_of c'.board) qs) (setting_of c'.board) qs n) popped same))

@@ -1,11 +1,9 @@
 -- A forward exchange is taken, or not.
-use Rattle.std.proofs.Common.{◌≡◌, ℕ, zero, suc, ◌+◌, ◌<◌, true, false, leb, ◌≢◌, List, ◌∷◌, length, sym, refl, ap, ◌∙◌, subst, ap₂}
-use Rattle.std.proofs.lemmas.List.{set_comm}
+use Rattle.std.proofs.Common.{◌≡◌, ℕ, ◌+◌, ◌<◌, true, false, leb, ◌≢◌, List, ◌∷◌, length, sym, ap, ◌∙◌, subst, ap₂}
 use Rattle.std.proofs.lemmas.Bool.{leb-false}
 use Rattle.faults.specs.declared.BoardFault.{BoardFault}
 use Rattle.faults.specs.declared.BoardFault.TheVariants.{RowLength, NotInService, NotOpen, OffLoop, NotRadial}
 use Rattle.faults.specs.declared.ReplayFault.TheVariants.{OnBoard}
-use Rattle.net.specs.Nets.{put}
 use Rattle.net.specs.Settings.{Setting, Closed, closing, opening, Radial}
 use Rattle.net.proofs.Settings.{opening_opens, not_from_open, open_from_not}
 use Rattle.survey.specs.Answers.{net_of}
@@ -15,6 +13,7 @@ use Rattle.trees.proofs.Loops.{swap_back, loop_closed}
 use Rattle.board.specs.declared.boards.Board.{Board}
 use Rattle.board.specs.Boards.{board_net, setting_of}
 use Rattle.board.proofs.Decided.{board_radial}
+use Rattle.board.proofs.Splits.{put_comm}
 use Rattle.stream.specs.Records.{F}
 use Rattle.replay.specs.declared.player.Course.{Course}
 use Rattle.replay.specs.declared.player.Player.TheVariants.{Walking}
@@ -26,18 +25,13 @@ use Rattle.replay.specs.Reversals.{reversed_by, CanReverse}
 use Rattle.replay.specs.Players.{course_place}
 use Rattle.replay.specs.Taking.{TakenOn}
 
-put_comm : {A : Type 0} (xs : List A) (i j : ℕ) (x y : A) → i ≢ j → put (put xs i x) j y ≡ put (put xs j y) i x
-put_comm xs zero j x y ne = refl
-put_comm xs (suc i) zero x y ne = refl
-put_comm xs (suc i) (suc j) x y ne = set_comm xs i j x y (λ e. ne (ap suc e))
-
 -- a link closed and then another opened: the two are swapped
 pub opened_swapped : (T : Setting) (out into : ℕ) → out ≢ into → opening (closing T into) out ≡ swapped T out into
 opened_swapped T out into ne = put_comm T into out true false (λ e. ne (sym e))
 
 module _ (b b' : Board) (out into : ℕ) (ne : out ≢ into) (x : ExchangedBy b out into b') where
   out_closed : Closed (setting_of b) out
-  out_closed = loop_closed (board_net b) (surveyed_fits b.site) (surveyed_reached b.site) (setting_of b) out into ne x.on_loop
+  out_closed = loop_closed (board_net b) (surveyed_fits b.switches.site) (surveyed_reached b.switches.site) (setting_of b) out into ne x.on_loop
 
   setting_after : setting_of b' ≡ swapped (setting_of b) out into
   setting_after = x.setting ∙ opened_swapped (setting_of b) out into ne
@@ -69,7 +63,7 @@ room_left c e = leb-false (board_net c.board).bars (length (pending_of c.pending
 
 module _ (c : Course) (out into : ℕ) (ne : out ≢ into) (room : length (pending_of c.pending) + 1 < (board_net c.board).bars) where
   pub forward_taken : (c' : Course) → ExchangedBy c.board out into c'.board → pending_of c'.pending ≡ (out, into) ∷ pending_of c.pending → c'.shown ≡ c.shown + 1
-      → TakenOn c.board.site (course_place c) (F out into) (Walking c')
+      → TakenOn c.board.switches.site (course_place c) (F out into) (Walking c')
   forward_taken c' x pushed more = record {
     same_site = x.same_site;
     goes = subst (Goes (board_net c.board) (course_place c) (F out into)) (sym (ap₂ (λ ps n. walking (reversed_by (setting_of c'.board) ps) (setting_of c'.board) ps n) pushed more))

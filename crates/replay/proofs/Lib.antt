@@ -1,7 +1,5 @@
-mod Stacks
+mod Errors
 mod Exchanged
-mod Rows
-mod Begun
 mod Started
 mod Opened
 mod Forwards

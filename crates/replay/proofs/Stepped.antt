@@ -1,5 +1,5 @@
 -- A record is read and taken, or the replay stops.
-use Rattle.std.proofs.Common.{◌≡◌, ℕ, ◌+◌, ◌<◌, ◌≢◌, List, [], length, Some, None, Ok, Err, Option, Result, sym, ◌∙◌, subst}
+use Rattle.std.proofs.Common.{◌≡◌, ℕ, ◌+◌, ◌<◌, ◌≢◌, List, [], length, Some, Ok, Err, Option, Result, sym, subst}
 use Rattle.faults.specs.declared.StreamFault.{StreamFault}
 use Rattle.faults.specs.declared.StreamFault.TheVariants.{UnknownKind, BodyCut}
 use Rattle.faults.specs.declared.ReplayFault.{ReplayFault}
@@ -11,10 +11,10 @@ use Rattle.stream.specs.declared.reader.Reader.{Reader}
 use Rattle.stream.specs.Records.{Record}
 use Rattle.stream.specs.Fronts.{Whole, FrontIs}
 use Rattle.stream.specs.Bodies.{record_in}
-use Rattle.stream.specs.Readers.{rest_of, place_of as placeRead, Reads, Moves}
+use Rattle.stream.specs.Readers.{rest_of, Reads, Moves}
 use Rattle.replay.specs.declared.player.Player.{Player}
 use Rattle.replay.specs.Places.{Place, unopened, starting, walking, ended}
-use Rattle.replay.specs.Streams.{GoesOn, Stops, past_end, too_soon, unknown, body_cut, refused}
+use Rattle.replay.specs.Streams.{GoesOn, Stops, past_end, unknown, body_cut, refused}
 use Rattle.replay.specs.Refusals.{Refuses}
 use Rattle.replay.specs.Players.{place_of, site_of_player}
 use Rattle.replay.specs.Taking.{Takes}
@@ -24,12 +24,6 @@ module _ (p : Player) (d d' : Reader) (onward : GoesOn (place_of p)) where
   pub unread_stops : (f : StreamFault) → Reads d (Err f) d' → Stops (net_of (site_of_player p)) d.place (place_of p) (rest_of d) (Unread f)
   unread_stops (UnknownKind place) (front, here, stays) = rw here (unknown onward front)
   unread_stops (BodyCut place) (front, here, stays) = rw here (body_cut onward front)
-
-  pub none_stops : (o : Option (ℕ × Body)) (n : ℕ) → o ≡ None → n ≡ placeRead d' → Reads d (Ok o) d' → Stops (net_of (site_of_player p)) d.place (place_of p) (rest_of d) (Misplaced n)
-  none_stops o n none here reads =
-      let (front, (same_rest, same_place)) : Reads d (Ok None) d' = subst (λ o. Reads d (Ok o) d') none reads in
-      subst (λ bytes. Stops (net_of (site_of_player p)) d.place (place_of p) bytes (Misplaced n)) (sym front.stands)
-      (subst (λ k. Stops (net_of (site_of_player p)) d.place (place_of p) [] (Misplaced k)) (sym (here ∙ same_place)) (too_soon onward))
 
   taken_steps : (r : Record) (at : ℕ) → at ≡ d.place → FrontIs (rest_of d) (Whole r (rest_of d')) → length (rest_of d') < length (rest_of d)
       → d'.place + length (rest_of d') ≡ d.place + length (rest_of d) → (t : Result Player ReplayFault) → Takes (site_of_player p) at (place_of p) r t → Steps p d t d'

@@ -13,7 +13,7 @@ pub record ExchangedBy (b : Board) (out into : ℕ) (b' : Board) : Type 0 where
   pub in_service : InService (board_net b) into
   pub was_open : ¬ Closed (setting_of b) into
   pub on_loop : InLoop (board_net b) (setting_of b) into out
-  pub same_site : b'.site ≡ b.site
+  pub same_site : b'.switches.site ≡ b.switches.site
   pub setting : setting_of b' ≡ opening (closing (setting_of b) into) out
 
 -- The link out is off the loop, and opening it would leave no radial setting.

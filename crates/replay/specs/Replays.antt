@@ -18,7 +18,7 @@ use Rattle.replay.specs.Players.{place_of, site_of_player}
 
 -- A stream is accepted: the board stands at its starting set, at the same site.
 pub record ReplayedOn (site : Surveyed) (bytes : List ℕ) (e : Replayed) : Type 0 where
-  pub same_site : e.board.site ≡ site
+  pub same_site : e.board.switches.site ≡ site
   pub accepts : Accepts (net_of site) bytes (setting_of e.board) e.shown
 
 -- A stream is replayed on a site, or the first question that is answered no.
@@ -27,7 +27,7 @@ Plays site bytes r = MatchResult r (ReplayedOn site bytes) (Refused (net_of site
 
 -- A stream is replayed on the site of a board; or the board comes back as it was, with the first question that is answered no.
 abbrev pub Replays : Board → List ℕ → Result Replayed (Board × ReplayFault) → Type 0
-Replays b bytes r = MatchResult r (ReplayedOn b.site bytes) (λ e. (e.0 ≡ b) × Refused (net_of b.site) bytes e.1)
+Replays b bytes r = MatchResult r (ReplayedOn b.switches.site bytes) (λ e. (e.0 ≡ b) × Refused (net_of b.switches.site) bytes e.1)
 
 -- The record at the front of the bytes is read, and takes the player on.
 pub record SteppedTo (p : Player) (d : Reader) (q : Player) (d' : Reader) : Type 0 where
@@ -44,4 +44,4 @@ Steps p d r d' = MatchResult r (λ q. SteppedTo p d q d') (Stops (net_of (site_o
 
 -- The bytes end: what was replayed, where the end was taken; else they end too soon.
 abbrev pub Finishes : Player → ℕ → Result Replayed ReplayFault → Type 0
-Finishes p at r = MatchResult r (λ e. (e.board.site ≡ site_of_player p) × (place_of p ≡ ended (setting_of e.board) e.shown)) (λ f. GoesOn (place_of p) × (f ≡ Misplaced at))
+Finishes p at r = MatchResult r (λ e. (e.board.switches.site ≡ site_of_player p) × (place_of p ≡ ended (setting_of e.board) e.shown)) (λ f. GoesOn (place_of p) × (f ≡ Misplaced at))

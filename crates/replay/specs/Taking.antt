@@ -4,13 +4,12 @@ use Rattle.faults.specs.declared.BoardFault.{BoardFault}
 use Rattle.faults.specs.declared.BoardFault.TheVariants.{NotRadial}
 use Rattle.faults.specs.declared.ReplayFault.{ReplayFault}
 use Rattle.faults.specs.declared.ReplayFault.TheVariants.{OnBoard}
-use Rattle.net.specs.Nets.{InService}
-use Rattle.net.specs.Settings.{Setting, Closed, Radial}
+use Rattle.net.specs.Settings.{Setting, Radial}
 use Rattle.survey.specs.declared.surveyed.Surveyed.{Surveyed}
 use Rattle.survey.specs.Answers.{net_of}
-use Rattle.stream.specs.Records.{Record, S}
+use Rattle.stream.specs.Records.{Record}
 use Rattle.replay.specs.declared.player.Player.{Player}
-use Rattle.replay.specs.Places.{Place, starting, begun, Goes}
+use Rattle.replay.specs.Places.{Place, begun, Goes}
 use Rattle.replay.specs.Refusals.{Refuses}
 use Rattle.replay.specs.Players.{place_of, site_of_player}
 
@@ -42,9 +41,3 @@ Takes site at p r o = MatchResult o (TakenOn site p r) (Refuses (net_of site) at
 -- The same where only the board can say no, at any byte.
 abbrev pub TakesOnBoard : Surveyed → Place → Record → Result Player BoardFault → Type 0
 TakesOnBoard site p r o = MatchResult o (TakenOn site p r) (λ f. (at : ℕ) → Refuses (net_of site) at p r (OnBoard f at))
-
--- A link of the starting set may be closed, or this is the first question that is answered no.
-abbrev pub MayClose : Surveyed → Setting → ℕ → Result (Unit {0}) BoardFault → Type 0
-MayClose site T l o = MatchResult o
-    (λ _. InService (net_of site) l × (¬ Closed T l))
-    (λ f. (at count : ℕ) → Refuses (net_of site) at (starting T count) (S l) (OnBoard f at))

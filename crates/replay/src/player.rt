@@ -1,5 +1,5 @@
 // Where a replay stands.
-ghost use Rattle.std.specs.Prelude.{◌≡◌, ◌+◌, ◌<◌, length};
+ghost use Rattle.std.specs.Prelude.{◌+◌, ◌<◌};
 ghost use Rattle.survey.specs.Answers.{net_of};
 ghost use Rattle.board.specs.Boards.{board_net, setting_of};
 ghost use Rattle.replay.specs.Pending.{pending_of};
@@ -7,28 +7,20 @@ ghost use Rattle.replay.specs.Reversals.{CanReverse};
 
 use crate::pending::Pending;
 use board::Board;
+use flood::Switches;
 use survey::Surveyed;
 
 mod opening;
-mod rows;
 mod starting;
 mod taking;
 mod walking;
 
-// A byte a link, 1 for those closed so far, and how many they are.
-#[derive(Clone, Copy)]
-pub(crate) struct Row {
-    bytes: [u8; 60],
-    closed: u32,
-    ghost long: { length bytes ≡ 60 },
-}
-
-// Among the records of the starting set: fewer links are closed than it has.
+// Among the records of the starting set: the links so far are closed, and they are fewer than the set has.
 #[derive(Drop)]
 pub(crate) struct Starts {
-    site: Surveyed,
-    row: Row,
-    ghost few: { row.closed + 1 < (net_of site).bars },
+    switches: Switches,
+    closed: u32,
+    ghost few: { closed + 1 < (net_of switches.site).bars },
 }
 
 // Among the exchanges: the board, the forward exchanges not yet reversed, and how many settings were shown.

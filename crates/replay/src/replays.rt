@@ -18,10 +18,7 @@ pub fn replay(board: Board, bytes: &[u8]) -> Result<Replayed, (Board, ReplayFaul
     ensures answer { Replays board bytes.now result }
     ensures single { OneAnswer (board_net board) bytes.now }
 {
-    match play(board.site(), bytes) {
-        Ok(replayed) => Ok(replayed),
-        Err(fault) => Err((board, fault)),
-    }
+    play(board.site(), bytes).map_err(|fault| (board, fault))
 }
 
 // Takes record after record, up to the end of the bytes.

@@ -6,7 +6,7 @@ ghost use Rattle.board.specs.Boards.{setting_of, looped_net, looped_setting, set
 ghost use Rattle.board.specs.Switching.{Undone, Splits};
 
 use super::{Board, Looped};
-use crate::settings::{feeds_all, has_closed};
+use crate::settings::feeds_all;
 use faults::BoardFault;
 
 impl Looped {
@@ -33,23 +33,21 @@ impl Looped {
         ensures on_loop { Decides result (InLoop (looped_net self.now) (setting_before self.now) self.now.link link) }
         ensures radial { Decides result (Radial (looped_net self.now) (opening (looped_setting self.now) link)) }
     {
-        let mut without = self.closed;
-        without.put(link, false);
-        has_closed(&self.site, &self.closed, link) && feeds_all(&self.site, &without)
+        self.switches.has_closed(link)
+            && feeds_all(self.switches.site(), &self.switches.flood_without(link))
     }
 
     // Opens a link of the loop.
     fn open(self, link: u64) -> Board
         requires { InLoop (looped_net self) (setting_before self) self.link link }
-        ensures site { result.site ≡ self.site }
+        ensures site { result.switches.site ≡ self.switches.site }
         ensures setting { setting_of result ≡ opening (looped_setting self) link }
     {
         let Looped {
-            site,
-            mut closed,
+            mut switches,
             link: _,
         } = self;
-        closed.put(link, false);
-        Board { site, closed }
+        switches.put(link, false);
+        Board { switches }
     }
 }

@@ -2,14 +2,16 @@
 ghost use Rattle.std.specs.Prelude.{◌≡◌, false};
 ghost use Rattle.net.specs.Nets.{nth, InService};
 ghost use Rattle.net.specs.Settings.{Closed};
+ghost use Rattle.flood.specs.Rows.{Presents};
 ghost use Rattle.board.specs.Boards.{board_net, setting_of};
-ghost use Rattle.board.specs.Making.{Makes, Presents};
+ghost use Rattle.board.specs.Making.{Makes, MakesOf};
 ghost use Rattle.board.specs.Switching.{ClosedBy, Closes};
 
 use super::{Board, Looped};
-use crate::rows::{read_row, write_row};
-use crate::settings::{has_closed, is_in_service, is_radial};
+use crate::rows::read_row;
+use crate::settings::is_radial;
 use faults::BoardFault;
+use flood::Switches;
 use net::NetSource;
 use survey::Surveyed;
 
@@ -18,15 +20,15 @@ impl NetSource for Board {
     ghost meaning = { board_net };
 
     fn bars(&self) -> u32 {
-        self.site.bars()
+        self.site().bars()
     }
 
     fn links(&self) -> u64 {
-        self.site.links()
+        self.site().links()
     }
 
     fn ends(&self, i: u64) -> Option<(u32, u32)> {
-        self.site.ends(i)
+        self.site().ends(i)
     }
 }
 
@@ -38,52 +40,48 @@ impl Board {
         if row.len() as u64 != site.links() {
             return Err(BoardFault::RowLength);
         }
-        let closed = read_row(row);
-        if !is_radial(site, &closed) {
+        Board::from_switches(read_row(site, row))
+    }
+
+    // The board of switches; where the closed links form no radial setting it is refused.
+    pub fn from_switches(switches: Switches) -> Result<Board, BoardFault>
+        ensures { MakesOf switches result }
+    {
+        if !is_radial(&switches) {
             return Err(BoardFault::NotRadial);
         }
-        Ok(Board {
-            site: *site,
-            closed,
-        })
+        Ok(Board { switches })
     }
 
     // The net of the board, surveyed.
     pub fn site(&self) -> &Surveyed
-        ensures { result.now ≡ self.now.site }
+        ensures { result.now ≡ self.now.switches.site }
     {
-        &self.site
+        self.switches.site()
     }
 
     // Whether a link is closed; no for what is no link.
     pub fn is_closed(&self, link: u64) -> bool
         ensures { result ≡ nth (setting_of self.now) link false }
     {
-        has_closed(&self.site, &self.closed, link)
+        self.switches.has_closed(link)
     }
 
     // Writes the setting into a row of one byte a link, 1 for closed and 0 for open.
     pub fn present(&self, row: &mut [u8]) -> Result<(), BoardFault>
-        ensures { Presents self.now row.old result row.new }
+        ensures { Presents (board_net self.now) (setting_of self.now) row.old result row.new }
     {
-        if row.len() as u64 != self.site.links() {
-            return Err(BoardFault::RowLength);
-        }
-        write_row(&self.closed, row);
-        Ok(())
+        self.switches.present(row)
     }
 
     // Closes a link that is in service and open. The loop that it makes must then be split or undone.
     pub fn close(self, link: u64) -> Result<Looped, (Board, BoardFault)>
         ensures { Closes self link result }
     {
-        if !is_in_service(&self.site, link) {
-            return Err((self, BoardFault::NotInService(link)));
+        match self.switches.may_close(link) {
+            Ok(()) => Ok(self.looped_by(link)),
+            Err(fault) => Err((self, fault)),
         }
-        if self.is_closed(link) {
-            return Err((self, BoardFault::NotOpen(link)));
-        }
-        Ok(self.looped_by(link))
     }
 
     // The looped board for which a link, open and in service, is closed.
@@ -92,8 +90,8 @@ impl Board {
         requires opened { ¬ Closed (setting_of self) link }
         ensures { ClosedBy self link result }
     {
-        let Board { site, mut closed } = self;
-        closed.put(link, true);
-        Looped { site, closed, link }
+        let Board { mut switches } = self;
+        switches.put(link, true);
+        Looped { switches, link }
     }
 }

@@ -5,9 +5,10 @@ ghost use Rattle.stream.specs.Bodies.{record_of};
 ghost use Rattle.replay.specs.Places.{unopened};
 ghost use Rattle.replay.specs.Taking.{Takes};
 
+use super::Player;
 use super::starting::begin;
-use super::{Player, Row};
 use faults::ReplayFault;
+use flood::Switches;
 use net::NetSource;
 use stream::Entry;
 use survey::Surveyed;
@@ -29,7 +30,7 @@ fn open(site: Surveyed, place: u64, bars: u16, links: u16) -> Result<Player, Rep
     if !has_size(&site, bars, links) {
         return Err(ReplayFault::AnotherNet(place));
     }
-    Ok(begin(site, Row::new()).unwrap())
+    Ok(begin(Switches::new(&site), 0).unwrap())
 }
 
 // Whether a site has so many bars and links.

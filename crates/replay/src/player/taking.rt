@@ -13,6 +13,7 @@ use stream::Entry;
 
 impl Player {
     // Takes the record that stands at a place, or says the first question about it that is answered no.
+    // Place and entry stay apart: each kind of record takes the entry to pieces, and only a refusal says the place.
     pub(crate) fn take(self, place: u64, entry: Entry) -> Result<Player, ReplayFault>
         requires { shown_at (place_of self) + 1 < 2 ^ 64 }
         ensures { Takes (site_of_player self) place (place_of self) (record_of entry) result }
@@ -29,10 +30,7 @@ impl Player {
     pub(crate) fn has_ended(&self) -> bool
         ensures { MatchBool result (¬ GoesOn (place_of self.now)) (GoesOn (place_of self.now)) }
     {
-        match *self {
-            Player::Ended(_) => true,
-            _ => false,
-        }
+        matches!(self, Player::Ended(_))
     }
 
     // What was replayed, if the end was taken; else the bytes end here too soon.

@@ -9,6 +9,7 @@ ghost use Rattle.replay.specs.Taking.{Takes};
 
 use super::{Course, Player, Replayed};
 use crate::exchanges::exchange;
+use crate::pending::Swap;
 use faults::ReplayFault;
 use net::NetSource;
 use stream::Entry;
@@ -17,22 +18,22 @@ impl Course {
     // Takes a record, which must be of an exchange or the end.
     pub(super) fn take(self, place: u64, entry: Entry) -> Result<Player, ReplayFault>
         requires { self.shown + 1 < 2 ^ 64 }
-        ensures { Takes self.board.site place (course_place self) (record_of entry) result }
+        ensures { Takes self.board.switches.site place (course_place self) (record_of entry) result }
     {
         match entry {
-            Entry::Forward { link_out, link_in } => self.forward(place, link_out, link_in),
-            Entry::Back { link_out, link_in } => self.back(place, link_out, link_in),
+            Entry::Forward { link_out, link_in } => self.forward(place, Swap { link_out, link_in }),
+            Entry::Back { link_out, link_in } => self.back(place, Swap { link_out, link_in }),
             Entry::End { settings } => self.end(place, settings),
             _ => Err(ReplayFault::Misplaced(place)),
         }
     }
 
     // Makes a forward exchange, which shows one setting more.
-    fn forward(self, place: u64, link_out: u16, link_in: u16) -> Result<Player, ReplayFault>
+    fn forward(self, place: u64, swap: Swap) -> Result<Player, ReplayFault>
         requires { self.shown + 1 < 2 ^ 64 }
-        ensures { Takes self.board.site place (course_place self) (F link_out link_in) result }
+        ensures { Takes self.board.switches.site place (course_place self) (F swap.link_out swap.link_in) result }
     {
-        if link_out == link_in {
+        if swap.link_out == swap.link_in {
             return Err(ReplayFault::SameLinks(place));
         }
         if self.is_deep() {
@@ -43,35 +44,31 @@ impl Course {
             mut pending,
             shown,
         } = self;
-        match exchange(board, link_out as u64, link_in as u64) {
-            Ok(board) => {
-                pending.push(link_out, link_in);
-                Ok(Player::Walking(Course {
-                    board,
-                    pending,
-                    shown: shown + 1,
-                }))
-            }
-            Err(fault) => Err(ReplayFault::OnBoard {
-                fault,
-                record: place,
-            }),
-        }
+        let board = exchange(board, swap).map_err(|fault| ReplayFault::OnBoard {
+            fault,
+            record: place,
+        })?;
+        pending.push(swap);
+        Ok(Player::Walking(Course {
+            board,
+            pending,
+            shown: shown + 1,
+        }))
     }
 
     // Makes a back exchange, which must reverse the last forward exchange not yet reversed.
-    fn back(self, place: u64, link_out: u16, link_in: u16) -> Result<Player, ReplayFault>
-        ensures { Takes self.board.site place (course_place self) (B link_out link_in) result }
+    fn back(self, place: u64, swap: Swap) -> Result<Player, ReplayFault>
+        ensures { Takes self.board.switches.site place (course_place self) (B swap.link_out swap.link_in) result }
     {
         let Course {
             board,
             mut pending,
             shown,
         } = self;
-        if !pending.take_back(link_out, link_in) {
+        if !pending.take_back(swap) {
             return Err(ReplayFault::NotReversal(place));
         }
-        let board = exchange(board, link_out as u64, link_in as u64).unwrap();
+        let board = exchange(board, swap).unwrap();
         Ok(Player::Walking(Course {
             board,
             pending,
@@ -81,7 +78,7 @@ impl Course {
 
     // Ends the replay: all must be reversed, and so many settings shown.
     fn end(self, place: u64, settings: u64) -> Result<Player, ReplayFault>
-        ensures { Takes self.board.site place (course_place self) (Z settings) result }
+        ensures { Takes self.board.switches.site place (course_place self) (Z settings) result }
     {
         if !self.may_end(settings) {
             return Err(ReplayFault::WrongEnd(place));

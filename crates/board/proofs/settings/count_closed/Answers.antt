@@ -1,30 +1,23 @@
-use Rattle.std.proofs.Common.{◌<◌, true, false, cond, length, ap, ◌∙◌, arith}
-use Rattle.std.proofs.lemmas.List.{take_all}
-use Rattle.std.proofs.lemmas.List.Sums.{sum_by-take-le}
-use Rattle.net.specs.Settings.{closed_links}
+use borrow.Author.Tests.{tests}
+use Rattle.std.proofs.Common.{rules, false, length, ap, ◌∙◌, arith}
+use Rattle.std.specs.Range.{range_inclusive_start, range_inclusive_end, range_inclusive_exhausted}
+use Rattle.std.proofs.lemmas.Iterator.Consumers.{YieldsList-from_filter, count_from_yields_List}
+use Rattle.net.specs.Nets.{nth}
 use Rattle.survey.specs.Answers.{net_of}
-use Rattle.flood.specs.Marked.{row_in}
-use Rattle.board.proofs.Held.{row_length, count_more, count_few}
+use Rattle.flood.specs.Marked.{switched}
+use Rattle.flood.proofs.Ranges.{YieldsList-from_inclusive}
+use Rattle.flood.proofs.Lengths.{switched_length}
+use Rattle.board.proofs.Held.{count_closed}
 use Rattle.board.proofs.settings.count_closed.Goals as goal
-use Rattle.board.proofs.settings.count_closed.Goals.{then-has_closed, else-has_closed}
-
-pub overflow_add-count : goal.overflow_add-count
-overflow_add-count c =
-    let T = row_in (net_of c.args.site.now) c.args.closed.now in
-    omega (arith, c.loop-done.invariant, sum_by-take-le (λ b. cond b 1 0) T c.loop-done.done, count_few c.args.site.now c.args.closed.now)
-
-pub loop-done-preserved : goal.loop-done-preserved
-loop-done-preserved c =
-    let T = row_in (net_of c.args.site.now) c.args.closed.now in
-    let h : c.loop-done.done < length T = omega (arith, row_length c.args.site.now c.args.closed.now, c.links-done-end.ensures, c.loop-done-test.true) in
-    elim c.if-has_closed.branch [
-      | then-has_closed w ↦ omega (arith, w.count-is, c.loop-done.invariant, count_more T c.loop-done.done true h w.if-has_closed.ensures)
-      | else-has_closed w ↦ omega (arith, w.count-is, c.loop-done.invariant, count_more T c.loop-done.done false h w.if-has_closed.ensures)
-    ]
 
 pub returns : goal.returns
 returns c =
-    let T = row_in (net_of c.args.site.now) c.args.closed.now in
-    c.loop-done.invariant
-    ∙ ap closed_links (take_all c.loop-done.done T
-    (omega (arith, row_length c.args.site.now c.args.closed.now, c.links-done-end.ensures, c.loop-done-test.false)))
+    let s = c.args.switches.now in
+    let n = length (net_of s.site).links in
+    let range = c.filter.ensures.source in
+    count_from_yields_List c.filter.result c.count.result c.count.ensures.ran (YieldsList-from_filter _ (λ l. nth (switched s) l false)
+    (YieldsList-from_inclusive 1 n n (ap range_inclusive_start range ∙ c.new.ensures.start)
+    (ap range_inclusive_end range ∙ c.new.ensures.end ∙ c.links.ensures ∙ ap (λ s. length (net_of s).links) c.site.ensures)
+    (ap range_inclusive_exhausted range ∙ c.new.ensures.exhausted) (omega arith))
+    c.filter.ensures.closure (λ x r q k. search (rules, tests)))
+    ∙ count_closed (switched s) n (switched_length s)

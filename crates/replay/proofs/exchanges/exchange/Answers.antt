@@ -1,13 +1,19 @@
-use Rattle.std.proofs.Common.{sym, refl, subst}
-use Rattle.replay.specs.Exchanges.{NoExchange}
-use Rattle.replay.proofs.Exchanged.{split_exchanged, split_off_loop}
+use borrow.Author.Tests.{tests}
+use Rattle.std.proofs.Common.{◌≡◌, rules, subst}
+use Rattle.flood.specs.Closing.{NotClosable}
+use Rattle.std.proofs.lemmas.Result.{MatchResult-at_ok}
+use Rattle.board.specs.Boards.{board_net, setting_of}
+use Rattle.board.specs.Switching.{ClosedBy, Closes, Splits}
+use Rattle.replay.proofs.Errors.{mapped}
+use Rattle.replay.proofs.Exchanged.{exchanged}
 use Rattle.replay.proofs.exchanges.exchange.Goals as goal
 
-pub returns-in-Ok-split : goal.returns-in-Ok-split
-returns-in-Ok-split c = split_exchanged c.args.board c.in-Ok.looped c.args.link_out c.args.link_in c.in-Ok.ensures c.in-Ok-split.board c.in-Ok-split.ensures
-
-pub returns-in-Err-split : goal.returns-in-Err-split
-returns-in-Err-split c =
-    let (undone, fault, no-split) = c.in-Err-split.ensures in
-    subst (NoExchange c.args.board c.args.link_out c.args.link_in) (sym fault)
-    (refl, split_off_loop c.args.board c.in-Ok.looped c.args.link_out c.args.link_in c.in-Ok.ensures no-split)
+pub returns : goal.returns
+returns c =
+    let b = c.args.board in
+    let out = c.args.swap.link_out in
+    let into = c.args.swap.link_in in
+    let s = c.in_ok-looped.looped in
+    let closed = mapped (ClosedBy b into) (λ e. (e.0 ≡ b) × NotClosable (board_net b) (setting_of b) into e.1) (λ _. Unit {0}) c.close.result c.map_err.result c.map_err.ensures.cases
+    (subst (λ l. Closes b l c.close.result) c.from.ensures c.close.ensures) (λ e f no_way said. tt) in
+    exchanged b s out into (MatchResult-at_ok _ _ s c.in_ok-looped.was closed) c.split.result c.map_err-2.result c.map_err-2.ensures.cases (subst (λ l. Splits s l c.split.result) c.from-2.ensures c.split.ensures) (λ e d m. search (rules, tests))

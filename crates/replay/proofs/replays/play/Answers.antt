@@ -1,9 +1,8 @@
 use Rattle.std.proofs.Common.{length, sym}
 use Rattle.std.proofs.lemmas.List.{nil_from_length}
-use Rattle.std.proofs.lemmas.Result.{err_from_is_err_and}
 use Rattle.std.proofs.lemmas.Bool.{eqb-true}
 use Rattle.stream.specs.Readers.{rest_of}
-use Rattle.replay.proofs.Reached.{reached_none, reached_more, reached_stops, reached_all}
+use Rattle.replay.proofs.Reached.{reached_none, reached_more, reached_all}
 use Rattle.replay.proofs.Single.{reader_once}
 use Rattle.replay.proofs.replays.play.Goals as goal
 
@@ -15,14 +14,8 @@ loop-reader-preserved c =
     reached_more c.args.site.now c.args.bytes.now c.loop-reader.player c.loop-reader.reader c.loop-reader.invariant c.in_ok-player.player c.step.new.reader
     c.in_ok-player.ensures
 
-pub returns-in_err-player : goal.returns-in_err-player
-returns-in_err-player c =
-    let p = err_from_is_err_and c.from_residual.result c.from_residual.ensures.1 in
-    record {
-      answer = rw (p.1, p.2) (reached_stops c.args.site.now c.args.bytes.now c.loop-reader.player c.loop-reader.reader c.loop-reader.invariant c.in_err-player.field-0.0
-          c.in_err-player.ensures);
-      single = reader_once c.args.site.now c.args.bytes.now c.new-reader.result c.new-reader.ensures.rest;
-    }
+pub returns-in_err-player-clause-single : goal.returns-in_err-player-clause-single
+returns-in_err-player-clause-single c = reader_once c.args.site.now c.args.bytes.now c.new-reader.result c.new-reader.ensures.rest
 
 pub returns : goal.returns
 returns c =

@@ -3,7 +3,7 @@ use Rattle.survey.specs.Answers.{net_of}
 use Rattle.stream.specs.Bodies.{record_of}
 use Rattle.stream.specs.Readers.{rest_of}
 use Rattle.replay.specs.Players.{place_of, site_of_player}
-use Rattle.replay.proofs.Stepped.{unread_stops, none_stops, some_steps, end_stops}
+use Rattle.replay.proofs.Stepped.{unread_stops, some_steps, end_stops}
 use Rattle.replay.proofs.replays.step.Goals as goal
 
 pub returns-then-has_ended : goal.returns-then-has_ended
@@ -15,11 +15,6 @@ pub returns-in_err-place : goal.returns-in_err-place
 returns-in_err-place c =
     let p = err_from_is_err_and c.from_residual.result c.from_residual.ensures.1 in
     rw (p.1, p.2) (unread_stops c.args.player c.args.reader.now c.next.new.self c.if-has_ended.ensures c.in_err-place.field-0.0 c.in_err-place.ensures)
-
-pub returns-in_default : goal.returns-in_default
-returns-in_default c =
-    none_stops c.args.player c.args.reader.now c.next.new.self c.if-has_ended.ensures c.in_ok-place.field-0 c.place-in_default.result c.in_default.is c.place-in_default.ensures
-    c.in_ok-place.ensures
 
 pub returns : goal.returns
 returns c =

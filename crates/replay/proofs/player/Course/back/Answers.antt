@@ -11,14 +11,14 @@ returns-then-not-take_back c = reverses_not c.if-not-take_back.ensures.1
 
 pub unwrap-board-requires : goal.unwrap-board-requires
 unwrap-board-requires c =
-    back_ok c.args.self c.args.link_out c.args.link_in (pending_of c.take_back.new.self) c.if-not-take_back.ensures c.exchange.result c.exchange.ensures
+    back_ok c.args.self c.args.swap.link_out c.args.swap.link_in (pending_of c.take_back.new.self) c.if-not-take_back.ensures c.exchange.result c.exchange.ensures
 
 pub invariant_of-result : goal.invariant_of-result
 invariant_of-result c =
-    let x : ExchangedBy c.args.self.board c.args.link_out c.args.link_in c.unwrap-board.result = MatchResult-at_ok _ _ c.unwrap-board.result c.unwrap-board.ensures c.exchange.ensures in
-    record { reversible = back_reversible c.args.self c.args.link_out c.args.link_in (pending_of c.take_back.new.self) c.if-not-take_back.ensures c.unwrap-board.result x }
+    let x : ExchangedBy c.args.self.board c.args.swap.link_out c.args.swap.link_in c.unwrap-board.result = MatchResult-at_ok _ _ c.unwrap-board.result c.unwrap-board.ensures c.exchange.ensures in
+    record { reversible = back_reversible c.args.self c.args.swap.link_out c.args.swap.link_in (pending_of c.take_back.new.self) c.if-not-take_back.ensures c.unwrap-board.result x }
 
 pub returns : goal.returns
 returns c =
-    let x : ExchangedBy c.args.self.board c.args.link_out c.args.link_in c.unwrap-board.result = MatchResult-at_ok _ _ c.unwrap-board.result c.unwrap-board.ensures c.exchange.ensures in
-    back_taken c.args.self c.args.link_out c.args.link_in (pending_of c.take_back.new.self) c.if-not-take_back.ensures _ x refl refl
+    let x : ExchangedBy c.args.self.board c.args.swap.link_out c.args.swap.link_in c.unwrap-board.result = MatchResult-at_ok _ _ c.unwrap-board.result c.unwrap-board.ensures c.exchange.ensures in
+    back_taken c.args.self c.args.swap.link_out c.args.swap.link_in (pending_of c.take_back.new.self) c.if-not-take_back.ensures _ x refl refl

@@ -1,25 +1,17 @@
-use Rattle.std.proofs.Common.{ap, ◌∙◌, subst, arith}
-use Rattle.net.proofs.Links.{joins_range}
+use Rattle.std.proofs.lemmas.Result.{err_from_is_err_and}
 use Rattle.survey.specs.Answers.{net_of}
-use Rattle.survey.proofs.Whole.{surveyed_fits}
-use Rattle.replay.specs.Players.{row_setting}
-use Rattle.replay.specs.Taking.{Begins}
-use Rattle.replay.proofs.Rows.{row_closing}
-use Rattle.replay.proofs.Started.{start_taken}
+use Rattle.flood.specs.Marked.{switched}
+use Rattle.replay.proofs.Started.{start_taken, not_closable}
 use Rattle.replay.proofs.player.Starts.start.Goals as goal
 
-pub close-requires : goal.close-requires
-close-requires c =
+pub returns-in_err-may_close : goal.returns-in_err-may_close
+returns-in_err-may_close c =
+    let p = err_from_is_err_and c.from_residual.result c.from_residual.ensures.1 in
     let s = c.args.self in
-    let (lo, hi) = joins_range (net_of s.site) c.in_ok-may_close.ensures.0.2 in
-    record { number = (lo, omega (arith, (surveyed_fits s.site).few_links)); few = omega (arith, s.few, (surveyed_fits s.site).few_bars) }
+    rw (p.1, p.2) (not_closable (net_of s.switches.site) (switched s.switches) s.closed c.args.link c.in_err-may_close.field-0.0 c.in_err-may_close.ensures)
 
 pub returns : goal.returns
 returns c =
     let s = c.args.self in
-    let l = c.args.link in
-    let row = c.close.new.self in
     let (served, is_open) = c.in_ok-may_close.ensures in
-    start_taken s.site (row_setting s.site s.row.bytes) (row_setting s.site row.bytes) s.row.closed l served is_open
-    (ap (row_setting s.site) c.close.ensures.bytes ∙ row_closing s.site s.row.bytes l (joins_range (net_of s.site) served.2).0) c.begin.result
-    (subst (λ n. Begins s.site (row_setting s.site row.bytes) n c.begin.result) c.close.ensures.closed c.begin.ensures)
+    start_taken s.switches c.put.new.self s.closed c.args.link served is_open c.put.ensures.site c.put.ensures.row c.begin.result c.begin.ensures

@@ -9,10 +9,10 @@ pub returns-then-not-has_size : goal.returns-then-not-has_size
 returns-then-not-has_size c = matches_not (λ same. both_ways false refl (c.if-not-has_size.ensures.1 same))
 
 pub unwrap-requires : goal.unwrap-requires
-unwrap-requires c = opens_ok c.args.site c.new.result c.new.ensures.bytes c.new.ensures.closed c.begin.result c.begin.ensures
+unwrap-requires c = opens_ok c.args.site c.new.result c.new.ensures.site c.new.ensures.row c.begin.result c.begin.ensures
 
 pub returns : goal.returns
 returns c =
     let (same-bars, same_links) = c.if-not-has_size.ensures.0 refl in
-    opens_taken c.args.site c.new.result c.new.ensures.bytes c.new.ensures.closed c.args.bars c.args.links c.unwrap.result same-bars same_links
+    opens_taken c.args.site c.new.result c.new.ensures.site c.new.ensures.row c.args.bars c.args.links c.unwrap.result same-bars same_links
     (MatchResult-at_ok _ _ c.unwrap.result c.unwrap.ensures c.begin.ensures)

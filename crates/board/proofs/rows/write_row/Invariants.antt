@@ -1,7 +1,0 @@
-use Rattle.std.proofs.Common.{◌≡◌, take}
-use Rattle.board.specs.Rows.{row_of}
-use Rattle.board.proofs.rows.write_row.Given as goal
-
--- the bytes so far were written
-abbrev pub invariant-loop-at : goal.invariant-loop-at
-invariant-loop-at l = take l.at l.row ≡ row_of (take l.at l.closed.marked)

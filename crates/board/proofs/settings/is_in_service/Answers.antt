@@ -1,8 +1,0 @@
-use Rattle.std.proofs.Common.{is_some}
-use Rattle.std.proofs.lemmas.Bool.Decides.{Decides-at}
-use Rattle.survey.specs.Answers.{net_of}
-use Rattle.board.proofs.Held.{some_tells}
-use Rattle.board.proofs.settings.is_in_service.Goals as goal
-
-pub returns : goal.returns
-returns c = Decides-at c.is_some.result (is_some c.ends.result) c.is_some.ensures (some_tells (net_of c.args.site.now) c.args.link c.ends.result c.ends.ensures)
