@@ -1,5 +1,4 @@
-mod Written
 mod Decimals
 mod Numbers
-mod Starts
+mod Ends
 pub mod Tellings

@@ -1,50 +1,64 @@
--- The closed links of a setting, written in ascending number.
-use Rattle.std.proofs.Common.{◌≡◌, ℕ, ◌+◌, ◌*◌, ◌<◌, ◌≤◌, true, false, cond, List, [], ◌∷◌, ◌++◌, length, get_or, filter, sym, ap, ◌∙◌, map-id, add-one, arith, length-append}
+-- The closed links of a setting, written from the highest number down.
+use Rattle.std.proofs.Common.{◌≡◌, ℕ, suc, ◌+◌, ◌-◌, ◌*◌, ◌<◌, ◌≤◌, true, false, cond, List, ◌∷◌, ◌++◌, length, drop, filter, sym, ap, ◌∙◌, append_assoc, arith}
 use Rattle.std.specs.List.{range_with_len, flat_map}
-use Rattle.std.proofs.lemmas.List.{append-nil, flat_map_more}
-use Rattle.std.proofs.lemmas.List.FromFn.{filter_of_map_range_with_len_more}
 use Rattle.net.specs.Nets.{nth}
 use Rattle.net.specs.Settings.{Setting}
-use Rattle.lines.specs.declared.sheet.Sheet.{Sheet}
-use Rattle.lines.specs.Texts.{spaced}
-use Rattle.lines.specs.Sheets.{Wrote}
-use Rattle.lines.proofs.Written.{wrote_both, wrote_as}
+use Rattle.survey.proofs.Whole.{surveyed_fits}
+use Rattle.flood.specs.declared.switches.Switches.{Switches}
+use Rattle.flood.specs.Marked.{switched}
+use Rattle.flood.proofs.Lengths.{switched_length}
+use Rattle.lines.specs.Texts.{closed_numbers, spaced}
 use Rattle.lines.proofs.Decimals.{link_short}
 
--- the closed links with numbers 1 to i
-abbrev numbers_to : Setting → ℕ → List ℕ
-numbers_to T i = filter (λ l. nth T l false) (range_with_len 1 i)
+pub few_links : (s : Switches) → length (switched s) ≤ 60
+few_links s = omega (arith, switched_length s, (surveyed_fits s.site).few_links)
+
+-- the closed links of the first n with numbers from k on
+abbrev numbers_from : Setting → ℕ → ℕ → List ℕ
+numbers_from T n k = filter (λ l. nth T l false) (range_with_len k (n + 1 - k))
 
 -- and their text
-abbrev pub links_to : Setting → ℕ → List ℕ
-links_to T i = flat_map spaced (numbers_to T i)
+abbrev pub links_from : Setting → ℕ → ℕ → List ℕ
+links_from T n k = flat_map spaced (numbers_from T n k)
 
-numbers_more : (T : Setting) (i : ℕ) → numbers_to T (i + 1) ≡ numbers_to T i ++ cond (get_or T i false) ((i + 1) ∷ []) []
-numbers_more T i =
-    let e : nth T (i + 1) false ≡ get_or T i false = rw add-one in
-    let q = filter_of_map_range_with_len_more (λ l. nth T l false) (λ l. l) 1 i (i + 1) (omega arith) in
-    simp (map-id, e) at q
+-- one number less
+less : (n k : ℕ) → k ≤ n → n + 1 - k ≡ suc (n + 1 - (k + 1))
+less n k h = omega arith
 
-closed_more : (T : Setting) (i : ℕ) → get_or T i false ≡ true → links_to T (i + 1) ≡ links_to T i ++ spaced (i + 1)
-closed_more T i c = ap (flat_map spaced) (rw c at (numbers_more T i)) ∙ sym (flat_map_more spaced [] (numbers_to T i) (i + 1))
+one_less : (T : Setting) (n k : ℕ) → k ≤ n → numbers_from T n k ≡ cond (nth T k false) (k ∷ numbers_from T n (k + 1)) (numbers_from T n (k + 1))
+one_less T n k h = ap (λ m. filter (λ l. nth T l false) (range_with_len k m)) (less n k h)
 
-open_more : (T : Setting) (i : ℕ) → get_or T i false ≡ false → links_to T (i + 1) ≡ links_to T i
-open_more T i o = ap (flat_map spaced) (rw o at (numbers_more T i) ∙ append-nil (numbers_to T i))
+closed_less : (T : Setting) (n k : ℕ) → k ≤ n → nth T k false ≡ true → links_from T n k ≡ spaced k ++ links_from T n (k + 1)
+closed_less T n k h c = ap (flat_map spaced) (rw c at (one_less T n k h))
 
--- so far the links with numbers 1 to i are written, of at most three bytes each
-pub record Passed (T : Setting) (i : ℕ) (s t : Sheet) : Type 0 where
-  pub wrote : Wrote (links_to T i) s t
-  pub short : length (links_to T i) ≤ 3 * i
+open_less : (T : Setting) (n k : ℕ) → k ≤ n → nth T k false ≡ false → links_from T n k ≡ links_from T n (k + 1)
+open_less T n k h o = ap (flat_map spaced) (rw o at (one_less T n k h))
 
-pub pass_closed : {T : Setting} {i : ℕ} {s t u : Sheet} → i < 60 → get_or T i false ≡ true → Passed T i s t → Wrote (spaced (i + 1)) t u → Passed T (i + 1) s u
-pass_closed {T} {i} h c p w =
-    let e = closed_more T i c in
-    record {
-      wrote = wrote_as (sym e) (wrote_both p.wrote w);
-      short = omega (arith, ap length e, length-append (links_to T i) (spaced (i + 1)), link_short (i + 1) (omega arith), p.short);
-    }
+-- so far the links with numbers from k on are written, of at most three bytes each
+pub record Passed (T : Setting) (n k end start : ℕ) (old line : List ℕ) : Type 0 where
+  pub low : 1 ≤ k
+  pub below : start ≤ end
+  pub short : end ≤ start + 3 * (n + 1 - k)
+  pub written : drop start line ≡ links_from T n k ++ drop end old
 
-pub pass_open : {T : Setting} {i : ℕ} {s t : Sheet} → get_or T i false ≡ false → Passed T i s t → Passed T (i + 1) s t
-pass_open {T} {i} o p =
-    let e = open_more T i o in
-    record { wrote = wrote_as (sym e) p.wrote; short = omega (arith, ap length e, p.short) }
+module _ (T : Setting) (n k end start : ℕ) (old line : List ℕ) (low : 1 ≤ k) (here : k ≤ n) (p : Passed T n (k + 1) end start old line) where
+  pub pass_closed : (start' : ℕ) (line' : List ℕ) → n ≤ 60 → nth T k false ≡ true → start' + length (spaced k) ≡ start → drop start' line' ≡ spaced k ++ drop start line
+      → Passed T n k end start' old line'
+  pass_closed start' line' few c e q =
+      let f = closed_less T n k here c in
+      record {
+        low = low;
+        below = omega (arith, p.below, e);
+        short = omega (arith, p.short, e, link_short k (omega arith), less n k here);
+        written = q ∙ ap (λ xs. spaced k ++ xs) p.written ∙ sym (append_assoc (spaced k) (links_from T n (k + 1)) (drop end old)) ∙ ap (λ xs. xs ++ drop end old) (sym f);
+      }
+
+  pub pass_open : nth T k false ≡ false → Passed T n k end start old line
+  pass_open o =
+      let f = open_less T n k here o in
+      record {
+        low = low;
+        below = p.below;
+        short = omega (arith, p.short, less n k here);
+        written = p.written ∙ ap (λ xs. xs ++ drop end old) (sym f);
+      }

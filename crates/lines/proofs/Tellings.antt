@@ -1,5 +1,5 @@
 -- Exchanges told one after another.
-use Rattle.std.proofs.Common.{◌≡◌, ℕ, ◌+◌, true, false, List, [], ◌∷◌, fold, sym, refl, ◌∙◌, append_assoc, arith}
+use Rattle.std.proofs.Common.{◌≡◌, ℕ, ◌+◌, true, false, List, [], ◌∷◌, fold, sym, refl, ap, ◌∙◌, append_assoc, arith}
 use Rattle.std.proofs.lemmas.List.{append-nil}
 use Rattle.net.specs.Nets.{Net}
 use Rattle.net.specs.Settings.{Setting}
@@ -24,3 +24,6 @@ fold_reported p ((false, x) ∷ xs) = fold_reported (reaching p (exchanged p.set
 -- from the start on, all settings told
 pub told_start : (net : Net) (room : ℕ) (xs : List Exchanged) → fold reported (lined (first_report (start_setting net) room)) xs ≡ told_report net room xs
 told_start net room xs = fold_reported (lined (first_report (start_setting net) room)) xs ∙ same_report (omega arith) refl
+
+pub told_from : (net : Net) (room : ℕ) (p : Report) → p ≡ first_report (start_setting net) room → (xs : List Exchanged) → fold reported (lined p) xs ≡ told_report net room xs
+told_from net room p e xs = ap (λ q. fold reported (lined q) xs) e ∙ told_start net room xs

@@ -1,4 +1,3 @@
 pub mod Texts
 pub mod Reports
-pub mod Sheets
 pub mod Meanings

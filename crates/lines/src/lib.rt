@@ -1,7 +1,7 @@
 // The text of a listing, one line a setting.
 #![tactic(auto)]
 
-mod sheet;
+mod print;
 mod text;
 
 pub use text::Lines;

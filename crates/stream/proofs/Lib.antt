@@ -1,8 +1,8 @@
+mod Parts
 pub mod Lengths
 pub mod Numbers
 pub mod Decoding
 mod Parting
 mod Lacking
 pub mod Reread
-pub mod Written
 mod Heads

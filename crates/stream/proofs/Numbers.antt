@@ -72,17 +72,6 @@ number_8 bs e = omega (
 
 -- two numbers of two bytes each
 module _ (bs : List ℕ) (e : length bs ≡ 4) where
-  pub first_of_two : get_or bs 0 0 * 256 + get_or bs 1 0 ≡ number_in (take 2 bs)
-  first_of_two = omega (arith, number_more 256 bs 0 (omega arith), number_more 256 bs 1 (omega arith))
-
-  pub second_of_two : get_or bs 2 0 * 256 + get_or bs 3 0 ≡ number_in (drop 2 bs)
-  second_of_two = omega (
-    arith,
-    get_or-drop 2 bs 0 0,
-    get_or-drop 2 bs 1 0,
-    number_2 (drop 2 bs) (omega (arith, length-drop 2 bs)),
-  )
-
   pub big_endian_two : Bytes bs → big_endian 2 (number_in (take 2 bs)) ++ big_endian 2 (number_in (drop 2 bs)) ≡ bs
   big_endian_two h =
       ap₂ (λ xs ys. xs ++ ys)

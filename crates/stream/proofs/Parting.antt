@@ -7,7 +7,7 @@ use Rattle.stream.specs.declared.bodies.Body.TheVariants.{Net, Start, Forward, B
 use Rattle.stream.specs.Records.{big_endian, record_bytes}
 use Rattle.stream.specs.Fronts.{Fitting, Whole}
 use Rattle.stream.specs.Bodies.{bytes_in, number_in, record_in}
-use Rattle.stream.specs.Parts.{Parted, Parts}
+use Rattle.stream.proofs.Parts.{Parted, Parts}
 use Rattle.stream.specs.Readers.{Handed}
 use Rattle.stream.proofs.Numbers.{Bytes, bytes_take, bytes_drop, number_2, number_8, big_endian_number, big_endian_two}
 use Rattle.stream.proofs.Decoding.{front_is}

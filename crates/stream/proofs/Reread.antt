@@ -1,7 +1,6 @@
 -- What was written as records is read as these records.
-use Rattle.std.proofs.Common.{◌≡◌, ℕ, List, [], ◌∷◌, ◌++◌, Some, None, Ok, Err, Option, Result, sym, refl, ap, ◌∙◌, subst, ap₂, append_assoc}
+use Rattle.std.proofs.Common.{◌≡◌, ℕ, List, [], ◌∷◌, ◌++◌, Some, None, Ok, Err, Option, Result, sym, refl, ap, subst, ap₂}
 use Rattle.std.specs.List.{AllByRecursion}
-use Rattle.std.proofs.lemmas.List.{flat_map_more}
 use Rattle.faults.specs.declared.StreamFault.{StreamFault}
 use Rattle.faults.specs.declared.StreamFault.TheVariants.{UnknownKind, BodyCut}
 use Rattle.stream.specs.declared.bodies.Body.{Body}
@@ -9,7 +8,7 @@ use Rattle.stream.specs.declared.reader.Reader.{Reader}
 use Rattle.stream.specs.Records.{Record, record_bytes, records_bytes}
 use Rattle.stream.specs.Fronts.{Fitting, Front, Nothing, Whole, NoKind, Cut, FrontIs}
 use Rattle.stream.specs.Bodies.{record_in}
-use Rattle.stream.specs.Readers.{rest_of, place_of, Moves, Reads}
+use Rattle.stream.specs.Readers.{rest_of, place_of, Reads}
 use Rattle.stream.proofs.Decoding.{front_is}
 
 -- a whole record is nothing else
@@ -49,16 +48,6 @@ module _ (r : Record) (rest : List ℕ) (fits : Fitting r) (d d' : Reader) (e : 
       }
   read_again (Err (UnknownKind place)) (s, here, stays) = absurd (is_whole r rest (only_record _ s))
   read_again (Err (BodyCut place)) (s, here, stays) = absurd (is_whole r rest (only_record _ s))
-
--- one record more is read
-pub read_more : {d d' : Reader} (bytes : List ℕ) (rs : List Record) (place : ℕ) (body : Body) → bytes ≡ records_bytes rs ++ rest_of d → Moves d place body d'
-    → bytes ≡ records_bytes (rs ++ record_in body ∷ []) ++ rest_of d'
-read_more {d} {d'} bytes rs place body e m =
-    let r = record_in body in
-    e
-    ∙ ap (λ xs. records_bytes rs ++ xs) m.handed.front.stands.1
-    ∙ sym (append_assoc (records_bytes rs) (record_bytes r) (rest_of d'))
-    ∙ ap (λ xs. xs ++ rest_of d') (flat_map_more record_bytes [] rs r)
 
 -- bytes are the bytes of at most one list of records
 pub one_stream : (rs qs : List Record) → AllByRecursion Fitting rs → AllByRecursion Fitting qs → records_bytes rs ≡ records_bytes qs → rs ≡ qs

@@ -1,6 +1,5 @@
 pub mod Records
 pub mod Fronts
 pub mod Bodies
-pub mod Parts
 pub mod Readers
 pub mod Writers

@@ -14,7 +14,7 @@ pub enum Body<'a> {
     End(&'a [u8; 8]),
 }
 
-// What a record says.
+// What a record says. Forward and back are two kinds of record, as in the stream: one case with a kind in it would be matched twice.
 #[derive(Clone, Copy, PartialEq, Eq, Debug)]
 pub enum Entry {
     Net { bars: u16, links: u16 },

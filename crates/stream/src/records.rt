@@ -1,4 +1,4 @@
-// The records of a stream.
+// The records of a stream. Their letters stand as letters, here and in the patterns of a front: names would only hide them.
 ghost use Rattle.std.specs.Prelude.{◌≡◌, ◌+◌, ◌*◌, nat_le};
 ghost use Rattle.collectors.specs.Exchanges.{said_by};
 ghost use Rattle.stream.specs.Records.{net_bytes, start_bytes, exchange_bytes, end_bytes};
@@ -31,7 +31,7 @@ pub(crate) fn start_record(link: u16) -> [u8; START_BYTES]
     [b'S', high, low]
 }
 
-// The record of an exchange.
+// The record of an exchange. Its links are at most 60, so the casts lose nothing, and a `try_from` would never refuse.
 pub(crate) fn exchange_record(exchange: Exchange) -> [u8; EXCHANGE_BYTES]
     ensures { result ≡ exchange_bytes (said_by exchange) }
 {

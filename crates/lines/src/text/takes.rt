@@ -4,7 +4,7 @@ ghost use Rattle.lines.specs.Reports.{Report, reported};
 ghost use Rattle.lines.specs.Meanings.{report_of, spare_of};
 
 use super::Lines;
-use collectors::{Collector, Exchange};
+use collectors::{Collector, Exchange, Kind};
 use faults::CollectorFault;
 
 impl Collector for Lines<'_> {
@@ -16,19 +16,23 @@ impl Collector for Lines<'_> {
 
     ghost rule = { reported };
 
-    ghost bounded = { λ l. omega (arith, l.fits, l.short) };
+    ghost bounded = { λ l. omega (arith, l.fits, l.sheet.short) };
 
     fn spare(&self) -> u64 {
         self.left
     }
 
     fn take(&mut self, exchange: Exchange) -> Result<(), CollectorFault> {
-        if self.left == 0 {
-            return Err(CollectorFault::Full);
+        self.left = self.left.checked_sub(1).ok_or(CollectorFault::Full)?;
+        self.switches.put(u64::from(exchange.link_out()), false);
+        self.switches.put(u64::from(exchange.link_in()), true);
+        // A match: with an `if` on the kind the check finds neither return.
+        match exchange.kind() {
+            Kind::Forward => {
+                self.settings += 1;
+                self.put_line()
+            }
+            Kind::Back => Ok(()),
         }
-        self.switch(exchange.link_out(), false);
-        self.switch(exchange.link_in(), true);
-        self.tell(exchange.kind());
-        Ok(())
     }
 }

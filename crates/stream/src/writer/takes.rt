@@ -19,20 +19,16 @@ impl Collector for Writer<'_> {
 
     ghost rule = { written_on };
 
-    ghost bounded = { λ w. omega (arith, w.short) };
+    ghost bounded = { λ w. omega (arith, w.sheet.short) };
 
     fn spare(&self) -> u64 {
-        (self.left() / EXCHANGE_BYTES) as u64
+        (self.sheet.left() / EXCHANGE_BYTES) as u64
     }
 
     fn take(&mut self, exchange: Exchange) -> Result<(), CollectorFault>
         ensures offered { Offered written_on (bytes_of self.old) (spare_of self.old) (said_by exchange) result (bytes_of self.new) (spare_of self.new) }
         ensures room { room_of self.new ≡ room_of self.old }
     {
-        if self.left() < EXCHANGE_BYTES {
-            return Err(CollectorFault::Full);
-        }
-        self.put(&exchange_record(exchange));
-        Ok(())
+        self.sheet.put(&exchange_record(exchange))
     }
 }
