@@ -1,5 +1,5 @@
 -- What a packer has still to write, after each call.
-use Rattle.std.proofs.Common.{◌≡◌, ℕ, ◌+◌, ◌/◌, ◌≤◌, min, true, false, cond, eqb, List, [], ◌∷◌, ◌++◌, map, length, take, drop, is_ok, Ok, Err, fold, Result, sym, refl, ap, ◌∙◌, ap₂, append_assoc, append-nil, arith, length-append}
+use Rattle.std.proofs.Common.{◌≡◌, ℕ, ◌+◌, ◌/◌, ◌<◌, ◌≤◌, min, true, false, cond, eqb, ◌≢◌, List, [], ◌∷◌, ◌++◌, map, length, take, drop, is_ok, Ok, Err, fold, Result, sym, refl, ap, ◌∙◌, ap₂, append_assoc, append-nil, arith, length-append}
 use mathlib.Core.List.{map-append}
 use native.Mathlib.Decide.{dec_le}
 use Rattle.std.proofs.lemmas.Bool.{ne_eqb, le-leb, lt-leb}
@@ -15,18 +15,20 @@ use Rattle.walk.specs.Walks.{handed_by}
 use Rattle.walk.specs.Calls.{handed_on, left_after}
 use Rattle.roundtrip.specs.declared.stage.Stage.{Stage}
 use Rattle.roundtrip.specs.declared.packer.Packer.{Packer}
-use Rattle.roundtrip.specs.Stages.{is_last}
-use Rattle.roundtrip.specs.Heads.{head_records, HeadPut}
+use Rattle.roundtrip.specs.Heads.{head_records}
 use Rattle.roundtrip.specs.Packs.{settings_of}
 use Rattle.roundtrip.specs.Packers.{net_packed, coming_after, next_after, next_of, Fills}
 
--- something is to come before the last stage
-pub none_coming : (net : Net) (stage : Stage) (n : ℕ) → is_last stage ≡ eqb (length (coming_after net stage n)) 0
-none_coming net Stage.Head n = sym (ne_eqb (length (coming_after net Stage.Head n)) 0 (λ e. omega arith))
-none_coming net Stage.Exchanges n =
+-- nothing is to come exactly at the last stage
+pub done_coming : (net : Net) (stage : Stage) (n : ℕ) → stage ≡ Stage.Done → true ≡ eqb (length (coming_after net stage n)) 0
+done_coming net stage n e = ap (λ s. eqb (length (coming_after net s n)) 0) (sym e)
+
+pub not_done_coming : (net : Net) (stage : Stage) (n : ℕ) → stage ≢ Stage.Done → false ≡ eqb (length (coming_after net stage n)) 0
+not_done_coming net Stage.Head n ne = sym (ne_eqb (length (coming_after net Stage.Head n)) 0 (λ e. omega arith))
+not_done_coming net Stage.Exchanges n ne =
     sym (ne_eqb (length (coming_after net Stage.Exchanges n)) 0 (λ e. omega (arith, length-append (map record_of_exchange (drop n (listing net))) (Z (settings_of net) ∷ []))))
-none_coming net Stage.End n = refl
-none_coming net Stage.Done n = refl
+not_done_coming net Stage.End n ne = refl
+not_done_coming net Stage.Done n ne = absurd (ne refl)
 
 -- the bytes of exchanges, one after another
 pub written_all : (bytes : List ℕ) (xs : List Exchanged) → fold written_on bytes xs ≡ bytes ++ records_bytes (map record_of_exchange xs)
@@ -63,15 +65,17 @@ module _ (w w' : Writer) (p p' : Packer) (same : net_packed p' ≡ net_packed p)
         ∙ ap (λ rs. next_of p (left_in w) ++ rs) (ap₂ (λ s k. coming_after (net_packed p) s k) (sym e') (sym h') ∙ ap (λ net. coming_after net p'.stage (handed_by p'.walk)) (sym same));
   }
 
-  pub head_filled : p.stage ≡ Stage.Head → p'.stage ≡ Stage.Exchanges → handed_by p.walk ≡ 0 → handed_by p'.walk ≡ 0 → HeadPut (net_packed p) w true w' → Fills w p w' p'
-  head_filled e e' h h' (fits, bytes) =
+  pub head_filled : p.stage ≡ Stage.Head → p'.stage ≡ Stage.Exchanges → handed_by p.walk ≡ 0 → handed_by p'.walk ≡ 0 → length (records_bytes (head_records (net_packed p))) ≤ left_in w
+      → bytes_of w' ≡ bytes_of w ++ records_bytes (head_records (net_packed p)) → Fills w p w' p'
+  head_filled e e' h h' fits bytes =
       let t = le-leb (length (records_bytes (head_records (net_packed p)))) (left_in w) fits in
       filled Stage.Head Stage.Exchanges 0 0 e e' h h'
       (bytes ∙ ap (λ b. bytes_of w ++ records_bytes (cond b (head_records (net_packed p)) [])) (sym t))
       (ap (λ b. cond b (head_records (net_packed p)) [] ++ coming_after (net_packed p) Stage.Exchanges 0) (sym t))
 
-  pub head_unfilled : p.stage ≡ Stage.Head → p'.stage ≡ Stage.Head → handed_by p.walk ≡ 0 → handed_by p'.walk ≡ 0 → HeadPut (net_packed p) w false w' → Fills w p w' p'
-  head_unfilled e e' h h' (lacks, bytes) =
+  pub head_unfilled : p.stage ≡ Stage.Head → p'.stage ≡ Stage.Head → handed_by p.walk ≡ 0 → handed_by p'.walk ≡ 0 → left_in w < length (records_bytes (head_records (net_packed p)))
+      → bytes_of w' ≡ bytes_of w → Fills w p w' p'
+  head_unfilled e e' h h' lacks bytes =
       let t = lt-leb (length (records_bytes (head_records (net_packed p)))) (left_in w) lacks in
       filled Stage.Head Stage.Head 0 0 e e' h h'
       (bytes ∙ sym (append-nil (bytes_of w)) ∙ ap (λ b. bytes_of w ++ records_bytes (cond b (head_records (net_packed p)) [])) (sym t))
@@ -102,7 +106,11 @@ over net n h = ap (λ xs. map record_of_exchange xs ++ (Z (settings_of net) ∷ 
 pub all_told : (net : Net) (n : ℕ) → length (listing net) ≤ n → length (told net (handed_on net n)) ≡ settings_of net
 all_told net n h = ap (λ xs. length (told net xs)) (take_all n (listing net) h)
 
--- the end written
-pub end_put : (w w' : Writer) (r : Result (Unit {0}) CollectorFault) (n : ℕ) → is_ok r ≡ true → Writes (end_bytes n) w r w' → (9 ≤ left_in w) × (bytes_of w' ≡ bytes_of w ++ end_bytes n)
-end_put w w' (Ok u) n e (fits, wrote) = (fits, wrote.behind)
-end_put w w' (Err f) n e h = absurd (not_both e refl)
+-- bytes written, or not
+pub put_ok : (bytes : List ℕ) (w w' : Writer) (r : Result (Unit {0}) CollectorFault) → is_ok r ≡ true → Writes bytes w r w' → (length bytes ≤ left_in w) × (bytes_of w' ≡ bytes_of w ++ bytes)
+put_ok bytes w w' (Ok u) e (fits, wrote) = (fits, wrote.behind)
+put_ok bytes w w' (Err f) e h = absurd (not_both e refl)
+
+pub put_err : (bytes : List ℕ) (w w' : Writer) (r : Result (Unit {0}) CollectorFault) → is_ok r ≡ false → Writes bytes w r w' → (left_in w < length bytes) × (bytes_of w' ≡ bytes_of w)
+put_err bytes w w' (Ok u) e h = absurd (not_both refl e)
+put_err bytes w w' (Err f) e (_, lacks, same) = (lacks, ap₂ take same.1 same.0)

@@ -1,5 +1,5 @@
 -- The stages of a packer. Assumes nothing.
-use Rattle.std.specs.Prelude.{ℕ, Bool, true, false, length, ◌==◌, nat_le}
+use Rattle.std.specs.Prelude.{ℕ, Bool, true, length, ◌==◌, nat_le}
 use Rattle.net.specs.Nets.{Net}
 use Rattle.trees.specs.Listings.{listing}
 use Rattle.roundtrip.specs.declared.stage.Stage.{Stage}
@@ -10,10 +10,3 @@ is_due net Stage.Head n = n == 0
 is_due net Stage.Exchanges n = true
 is_due net Stage.End n = nat_le (length (listing net)) n
 is_due net Stage.Done n = true
-
--- Nothing more is written.
-abbrev pub is_last : Stage → Bool
-is_last Stage.Head = false
-is_last Stage.Exchanges = false
-is_last Stage.End = false
-is_last Stage.Done = true

@@ -1,39 +1,31 @@
 // The head of a stream.
-ghost use Rattle.std.specs.Prelude.{◌≡◌, length, take};
+ghost use Rattle.std.specs.Prelude.{◌≡◌, length};
 ghost use Rattle.survey.specs.Surveys.{start_links};
 ghost use Rattle.survey.specs.Answers.{net_of};
-ghost use Rattle.trees.specs.Rules.{start_link_of};
-ghost use Rattle.roundtrip.specs.Heads.{HeadPut};
+ghost use Rattle.stream.specs.Records.{head_bytes};
+ghost use Rattle.stream.specs.Writers.{Writes};
 
+use arrayvec::ArrayVec;
+use faults::CollectorFault;
 use net::NetSource;
 use stream::Writer;
 use survey::Surveyed;
 
-// Writes the net and its start links by rank; whether they fit.
-pub(crate) fn put_head(site: &Surveyed, writer: &mut Writer) -> bool
-    ensures { HeadPut (net_of site.now) writer.old result writer.new }
+// Writes the net and its start links by rank; refused where they do not fit.
+pub(crate) fn put_head(site: &Surveyed, writer: &mut Writer) -> Result<(), CollectorFault>
+    ensures { Writes (head_bytes (net_of site.now).bars (length (net_of site.now).links) (start_links (net_of site.now))) writer.old result writer.new }
 {
     let starts = start_numbers(site);
-    let count = site.bars() as usize - 1;
-    writer
-        .head(site.bars() as u16, site.links() as u16, &starts[0..count])
-        .is_ok()
+    writer.head(site.bars() as u16, site.links() as u16, &starts)
 }
 
-// The start links by rank, in a table.
-fn start_numbers(site: &Surveyed) -> [u16; 32]
-    ensures { take (length (start_links (net_of site.now))) result ≡ start_links (net_of site.now) }
+// The start links by rank, in the width of a stream's numbers, which each cast is proved to keep: a `try_from` would never refuse.
+fn start_numbers(site: &Surveyed) -> ArrayVec<u16, 32>
+    ensures { result.items ≡ start_links (net_of site.now) }
 {
-    let mut numbers = [0; 32];
-    for rank in 1..site.bars() as usize {
-        numbers[rank - 1] = start_number(site, rank);
+    let mut numbers = ArrayVec::new();
+    for link in site.start_links() {
+        numbers.push(*link as u16);
     }
     numbers
-}
-
-// The start link of a rank; 0 where there is none.
-fn start_number(site: &Surveyed, rank: usize) -> u16
-    ensures { result ≡ start_link_of (net_of site.now) rank }
-{
-    site.start_link(rank).unwrap_or(0) as u16
 }

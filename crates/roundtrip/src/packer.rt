@@ -8,7 +8,7 @@ use walk::Walk;
 
 mod fills;
 
-// A walk of a net, and what is written next.
+// A walk of a net, and what is written next. A stage names the next step: a closure could not be copied with the packer.
 #[derive(Clone, Copy)]
 pub struct Packer {
     walk: Walk,

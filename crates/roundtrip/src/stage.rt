@@ -1,5 +1,4 @@
 // What a packer writes next.
-mod last;
 
 #[derive(Clone, Copy)]
 pub(crate) enum Stage {

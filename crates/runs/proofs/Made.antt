@@ -1,15 +1,16 @@
 -- One call made on a walk: what it is answered, in terms of the exchanges handed on before it.
-use Rattle.std.proofs.Common.{◌≡◌, ℕ, ◌+◌, ◌-◌, ◌≤◌, true, List, [], ◌++◌, length, take, drop, Some, None, vec_items, fold, Option, Result, Vec, sym, refl, ap, ◌∙◌, subst, arith, length-append, eq-eqb, MatchOption}
+use Rattle.std.proofs.Common.{◌≡◌, ℕ, ◌+◌, ◌-◌, ◌≤◌, true, List, [], ◌++◌, length, take, drop, Some, vec_items, fold, Option, Result, Vec, sym, refl, ap, ◌∙◌, subst, arith, length-append, eq-eqb}
 use Rattle.std.specs.declared.alloc.Global.{Global}
 use Rattle.std.proofs.lemmas.Bool.{eqb-true}
 use Rattle.std.proofs.lemmas.List.{take_all, length-take-le, length-drop}
 use Rattle.faults.specs.declared.BoardFault.{BoardFault}
 use Rattle.net.specs.Nets.{Net}
+use Rattle.flood.specs.Rows.{Presents}
 use Rattle.trees.specs.Listings.{Exchanged, listing, told}
 use Rattle.walk.specs.declared.answers.Advance.{Advance}
 use Rattle.walk.specs.declared.answers.Look.{Look}
 use Rattle.walk.specs.Told.{Complete}
-use Rattle.walk.specs.Calls.{handed_on, left_after, word_of, Advances, Looks, Presents}
+use Rattle.walk.specs.Calls.{handed_on, left_after, word_of, reached_after, Advances, Looks}
 use Rattle.runs.specs.declared.calls.Call.{Call}
 use Rattle.runs.specs.declared.calls.Call.TheVariants.{Advance as Advancing, Look as Looking, Present as Presenting}
 use Rattle.runs.specs.Runs.{HandsOn, Sees, Answered, advanced, looked, presented}
@@ -60,24 +61,21 @@ module _ (net : Net) (n : ℕ) (fits : n ≤ length (listing net)) where
 
 -- the answer to each kind of call
 module _ {C Sum : Type 0} (sum : C → Sum) (spare : C → ℕ) (rule : Sum → Exchanged → Sum) (net : Net) (n : ℕ) (fits : n ≤ length (listing net)) (call : Call C) where
-  pub advance_answered : (n' a : ℕ) (c c' : C) (o r : Option Advance) → call ≡ Advancing a c o
-      → MatchOption r ⊥ (λ x. Advances rule net n n' a (sum c) (spare c) (sum c') (spare c') x)
-      → (n ≤ n') × Answered sum spare rule net (handed_on net n) call (Advancing a c' r) (stretch net n n')
-  advance_answered n' a c c' o None e h = absurd h
-  advance_answered n' a c c' o (Some r) e h = (
+  pub advance_answered : (n' a : ℕ) (c c' : C) (o : Option Advance) (r : Advance) → call ≡ Advancing a c o → Advances rule net n n' a (sum c) (spare c) (sum c') (spare c') r
+      → (n ≤ n') × Answered sum spare rule net (handed_on net n) call (Advancing a c' (Some r)) (stretch net n n')
+  advance_answered n' a c c' o r e h = (
     omega (arith, h.on),
     subst (λ k. Answered sum spare rule net (handed_on net n) k (Advancing a c' (Some r)) (stretch net n n')) (sym e)
         (advanced (record { moved = stretch_moved net n fits rule n' a (sum c) (spare c) (sum c') (spare c') r h; used = stretch_used net n fits rule n' a (sum c) (spare c) (sum c') (spare c') r h })
         (stretch_hands net n fits rule n' a (sum c) (spare c) (sum c') (spare c') r h)),
   )
 
-  pub look_answered : (o r : Option Look) → call ≡ Looking o → MatchOption r ⊥ (λ l. Looks net n l × (l.finished ≡ true → Complete net (told net (handed_on net n))))
-      → Answered sum spare rule net (handed_on net n) call (Looking r) (stretch net n n)
-  look_answered o None e h = absurd h
-  look_answered o (Some r) e (l, whole) = subst (λ k. Answered sum spare rule net (handed_on net n) k (Looking (Some r)) (stretch net n n)) (sym e)
+  pub look_answered : (o : Option Look) (r : Look) → call ≡ Looking o → Looks net n r → (r.finished ≡ true → Complete net (told net (handed_on net n)))
+      → Answered sum spare rule net (handed_on net n) call (Looking (Some r)) (stretch net n n)
+  look_answered o r e l whole = subst (λ k. Answered sum spare rule net (handed_on net n) k (Looking (Some r)) (stretch net n n)) (sym e)
       (subst (Answered sum spare rule net (handed_on net n) (Looking o) (Looking (Some r))) (sym (stretch_none net n)) (looked (look_sees net n fits r l whole)))
 
   pub present_answered : (row row' : Vec ℕ Global) (o : Option (Result (Unit {0}) BoardFault)) (r : Result (Unit {0}) BoardFault) → call ≡ Presenting row o
-      → Presents net n (vec_items row) r (vec_items row') → Answered sum spare rule net (handed_on net n) call (Presenting row' (Some r)) (stretch net n n)
+      → Presents net (reached_after net n) (vec_items row) r (vec_items row') → Answered sum spare rule net (handed_on net n) call (Presenting row' (Some r)) (stretch net n n)
   present_answered row row' o r e h = subst (λ k. Answered sum spare rule net (handed_on net n) k (Presenting row' (Some r)) (stretch net n n)) (sym e)
       (subst (Answered sum spare rule net (handed_on net n) (Presenting row o) (Presenting row' (Some r))) (sym (stretch_none net n)) (presented h))

@@ -1,8 +1,7 @@
 -- The law of a run: any list of calls on a new walk of a net. Assumes nothing.
-use Rattle.std.specs.Prelude.{◌≡◌, ℕ, ◌+◌, ◌-◌, min, true, ◌≢◌, List, [], ◌∷◌, ◌++◌, length, take, Some, vec_items, fold, Result, MatchResult}
+use Rattle.std.specs.Prelude.{◌≡◌, ℕ, ◌+◌, ◌-◌, min, true, List, [], ◌∷◌, ◌++◌, length, take, Some, vec_items, fold, Result, MatchResult}
 use Rattle.faults.specs.declared.Fault.{Fault}
 use Rattle.faults.specs.declared.BoardFault.{BoardFault}
-use Rattle.faults.specs.declared.BoardFault.TheVariants.{RowLength}
 use Rattle.net.specs.Nets.{Net}
 use Rattle.survey.specs.declared.surveyed.Surveyed.{Surveyed}
 use Rattle.survey.specs.Surveys.{start_setting}
@@ -11,7 +10,8 @@ use Rattle.trees.specs.Listings.{Exchanged, listing, reached_by, told}
 use Rattle.walk.specs.declared.answers.Advance.{Advance}
 use Rattle.walk.specs.declared.answers.Look.{Look}
 use Rattle.walk.specs.Told.{Unbroken, Complete}
-use Rattle.walk.specs.Calls.{word_of, row_of}
+use Rattle.flood.specs.Rows.{Presents}
+use Rattle.walk.specs.Calls.{word_of}
 use Rattle.runs.specs.declared.calls.Call.{Call}
 use Rattle.runs.specs.declared.calls.Call.TheVariants.{Advance as Advancing, Look as Looking, Present as Presenting}
 
@@ -36,9 +36,7 @@ pub record Sees (net : Net) (before : List Exchanged) (r : Look) : Type 0 where
 
 -- A present shows the setting reached in a row of one byte a link; another row is refused and stays.
 abbrev pub Shows : Net → List Exchanged → List ℕ → Result (Unit {0}) BoardFault → List ℕ → Type 0
-Shows net before row r row' = MatchResult r
-    (λ _. (length row ≡ length net.links) × (row' ≡ row_of (reached_by (start_setting net) before)))
-    (λ f. (length row ≢ length net.links) × (f ≡ RowLength) × (row' ≡ row))
+Shows net before row r row' = Presents net (reached_by (start_setting net) before) row r row'
 
 module _ {C Sum : Type 0} (sum : C → Sum) (spare : C → ℕ) (rule : Sum → Exchanged → Sum) (net : Net) where
   -- A call, and the same call answered, after those handed on before; and the exchanges that it handed on.

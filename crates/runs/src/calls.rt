@@ -3,6 +3,7 @@ use faults::BoardFault;
 use walk::{Advance, Look};
 
 // One call. An advance brings its own collector and a present its own row; the answer is none until the call was made.
+// No closures stand here, as a caller writes the calls down as data and reads them again with their answers.
 #[derive(Drop)]
 pub enum Call<C> {
     Advance {

@@ -1,19 +1,18 @@
 // The run of a list of calls.
-ghost use Rattle.std.specs.Prelude.{◌≡◌, ◌-◌, ◌≤◌, true, take, drop, MatchOption};
+ghost use Rattle.std.specs.Prelude.{◌≡◌, ◌-◌, ◌≤◌, take, drop};
 ghost use Rattle.net.specs.Nets.{Net};
 ghost use Rattle.survey.specs.Answers.{net_of};
-ghost use Rattle.trees.specs.Listings.{listing, told};
-ghost use Rattle.walk.specs.Told.{Complete};
-ghost use Rattle.walk.specs.Calls.{handed_on, Advances, Looks, Presents};
+ghost use Rattle.trees.specs.Listings.{listing};
+ghost use Rattle.walk.specs.Calls.{handed_on};
 ghost use Rattle.walk.specs.Walks.{net_of_walk, handed_by};
 ghost use Rattle.runs.specs.Runs.{Answered, Lawful, Runs};
 
 use crate::calls::Call;
 use collectors::Collector;
-use faults::{BoardFault, Fault};
+use faults::Fault;
 use net::NetSource;
 use survey::{Surveyed, survey};
-use walk::{Advance, Look, Walk};
+use walk::Walk;
 
 // Surveys the net of a source, makes the calls on a new walk, one after another, and leaves in each what it was answered.
 pub fn run<S: NetSource, C: Collector>(source: &S, calls: &mut [Call<C>]) -> Result<Surveyed, Fault>
@@ -45,30 +44,8 @@ fn make<C: Collector>(walk: &mut Walk, call: &mut Call<C>)
             allowance,
             collector,
             answer,
-        } => *answer = hand_on(walk, *allowance, collector),
-        Call::Look { answer } => *answer = see(walk),
-        Call::Present { row, answer } => *answer = Some(show(walk, row)),
+        } => *answer = Some(walk.advance(*allowance, collector)),
+        Call::Look { answer } => *answer = Some(walk.look()),
+        Call::Present { row, answer } => *answer = Some(walk.present(row.as_mut_slice())),
     }
-}
-
-// Advances a walk; there is always an answer.
-fn hand_on<C: Collector>(walk: &mut Walk, allowance: u64, collector: &mut C) -> Option<Advance>
-    ensures net { net_of_walk walk.new ≡ net_of_walk walk.old }
-    ensures advanced { MatchOption result ⊥ (λ a. Advances C.rule (net_of_walk walk.old) (handed_by walk.old) (handed_by walk.new) allowance (C.sum collector.old) (C.spare collector.old) (C.sum collector.new) (C.spare collector.new) a) }
-{
-    Some(walk.advance(allowance, collector))
-}
-
-// Looks at a walk; there is always an answer.
-fn see(walk: &Walk) -> Option<Look>
-    ensures { MatchOption result ⊥ (λ l. Looks (net_of_walk walk.now) (handed_by walk.now) l × (l.finished ≡ true → Complete (net_of_walk walk.now) (told (net_of_walk walk.now) (handed_on (net_of_walk walk.now) (handed_by walk.now))))) }
-{
-    Some(walk.look())
-}
-
-// Shows the setting reached in a row.
-fn show(walk: &Walk, row: &mut Vec<u8>) -> Result<(), BoardFault>
-    ensures { Presents (net_of_walk walk.now) (handed_by walk.now) row.old.items result row.new.items }
-{
-    walk.present(row.as_mut_slice())
 }

@@ -5,7 +5,7 @@ use Rattle.net.specs.Nets.{Net}
 use Rattle.net.specs.Limits.{WithinLimits}
 use Rattle.survey.specs.Surveys.{start_setting, AllReached}
 use Rattle.trees.specs.Cuts.{swapped}
-use Rattle.trees.specs.Rules.{start_link_of}
+use Rattle.trees.specs.Rules.{start_link_of, IsStart}
 use Rattle.trees.specs.Listings.{enters}
 use Rattle.trees.proofs.Levels.{Level, start_level, level_below, level_passes, passes_level, level_child, level_back}
 use Rattle.search.specs.Descents.{Descent, link_at, setting_at, descends, EntersAt}
@@ -28,6 +28,10 @@ module _ (net : Net) where
   pub descent_length : (d : Descent) (k : ℕ) → descends net d k ≡ true → length d + k < net.bars
   descent_length [] k h = omega (arith, leb-true (suc k) net.bars h)
   descent_length ((j, r) ∷ d) k h = let (l, _, q) = descends_parts j r d k h in omega (arith, descent_length d j q)
+
+  -- a ceiling above 0 is the rank of a start link
+  pub start_below : (d : Descent) (k : ℕ) → descends net d k ≡ true → 1 ≤ k → IsStart net k
+  start_below d k h lo = (lo, omega (arith, descent_length d k h))
 
   pub descends_below : (d : Descent) (j k : ℕ) → j ≤ k → descends net d k ≡ true → descends net d j ≡ true
   descends_below [] j k l h = le-leb (suc j) net.bars (omega (arith, leb-true (suc k) net.bars h))

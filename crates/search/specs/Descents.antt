@@ -1,5 +1,5 @@
 -- Where a search stands: a setting, told by the way down to it from the start setting, and a ceiling of rank. Assumes nothing.
-use Rattle.std.specs.Prelude.{◌≡◌, ℕ, suc, ◌<◌, Bool, true, false, ◌&&◌, List, [], ◌∷◌, Some, None, Option, nat_le}
+use Rattle.std.specs.Prelude.{◌≡◌, ℕ, suc, ◌<◌, ◌≤◌, Bool, true, false, ◌&&◌, ◌⊎◌, List, [], ◌∷◌, Some, None, Option, nat_le}
 use Rattle.net.specs.Nets.{nth, Net}
 use Rattle.net.specs.Settings.{Setting}
 use Rattle.survey.specs.Surveys.{start_setting, link_order}
@@ -14,6 +14,11 @@ Descent = List (ℕ × ℕ)
 -- The link in service of rank r.
 abbrev pub link_at : Net → ℕ → ℕ
 link_at net r = nth (link_order net) r 0
+
+-- The two links of a move, by the rank of the leaving link and that of the entering link; none exactly where a rank has no link.
+abbrev pub LinksOf : Net → ℕ → ℕ → Option (ℕ × ℕ) → Type 0
+LinksOf net k r (Some (e, g)) = (e ≡ start_link_of net k) × (g ≡ link_at net r) × (1 ≤ e) × (1 ≤ g)
+LinksOf net k r None = (start_link_of net k ≡ 0) ⊎ (link_at net r ≡ 0)
 
 -- The setting that a descent comes to.
 abbrev pub setting_at : Net → Descent → Setting

@@ -45,8 +45,3 @@ start_feds net = map (fed_without net (start_setting net)) (range_with_len 1 (ne
 -- What a table holds of these.
 abbrev pub start_feds_in : Net → List (Marks 32) → List (List Bool)
 start_feds_in net ms = map (fed_in net) (take (net.bars - 1) ms)
-
--- At ceiling 0 nothing is asked of the bars that are fed.
-abbrev pub above0 : ℕ → List Bool → List Bool
-above0 zero M = []
-above0 (suc k) M = M

@@ -9,7 +9,7 @@ use Rattle.search.specs.Frames.{descent_in}
 
 -- The net that is searched.
 abbrev pub net_in : Search → Net
-net_in s = net_of s.site
+net_in s = net_of s.switches.site
 
 -- The descent to the setting where the search stands.
 abbrev pub descent_of : Search → Descent

@@ -1,7 +1,6 @@
 // The direct search for entering links: a setting, a ceiling of rank, and the moves between settings.
 #![tactic(auto)]
 
-mod ranked;
 mod state;
 
 pub use state::{Move, Search};

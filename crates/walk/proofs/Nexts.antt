@@ -1,5 +1,5 @@
 -- The entering links above a rank: the next one, and those above it.
-use Rattle.std.proofs.Common.{◌≡◌, ℕ, zero, suc, ◌<◌, ◌≤◌, Bool, true, false, leb, List, [], ◌∷◌, ◌++◌, length, get_or, drop, Some, None, filter, sym, refl, ap, ◌∙◌, subst, ap₂, inl, inr, append_assoc, arith}
+use Rattle.std.proofs.Common.{◌≡◌, ℕ, zero, suc, ◌<◌, ◌≤◌, Bool, true, false, leb, List, [], ◌∷◌, ◌++◌, length, get_or, drop, is_some, Some, None, filter, Option, sym, refl, ap, ◌∙◌, subst, ap₂, inl, inr, append_assoc, arith}
 use native.Mathlib.Decide.{dec_le}
 use Rattle.std.specs.List.{flat_map}
 use Rattle.std.proofs.lemmas.Bool.{and_from, le-leb}
@@ -97,3 +97,18 @@ lowered s s' m p q e n =
     ∙ next_none (net_in s) (search_fits s) (search_reached s) (descent_of s) (ceiling_of s') m (climb (net_in s) (descent_of s))
     (subst (λ k. descends (net_in s) (descent_of s) k ≡ true) e (search_descends s)) (subst (λ k. NextEntering (net_in s) (setting_of s) k m None) e n)
     ∙ ap (λ k. past (net_in s) (setting_of s) k m (climb (net_in s) (descent_of s))) (sym e)
+
+-- what the next link found says of what may come and of what is to come, where none found means ceiling 0
+pub settled : (s : Search) (m : ℕ) (o : Option ℕ) → (is_some o ≡ false → ceiling_of s ≡ 0) → NextEntering (net_in s) (setting_of s) (ceiling_of s) m o
+    → (may_come_next (net_in s) (descent_of s) (ceiling_of s) o ≡ true)
+    × (to_come (net_in s) (descent_of s) (ceiling_of s) o ≡ past (net_in s) (setting_of s) (ceiling_of s) m (climb (net_in s) (descent_of s)))
+settled s m (Some r) last n = (
+  next_may (net_in s) (search_fits s) (search_reached s) (descent_of s) (ceiling_of s) m r (search_descends s) n,
+  next_some (net_in s) (search_fits s) (search_reached s) (descent_of s) (ceiling_of s) m r (search_descends s) n,
+)
+settled s m None last n = (refl, ap (λ k. past (net_in s) (setting_of s) k m (climb (net_in s) (descent_of s))) (sym (last refl)))
+
+-- none found
+pub none_next : (net : Net) (T : Setting) (k m : ℕ) (o : Option ℕ) → is_some o ≡ false → NextEntering net T k m o → (o ≡ None) × NextEntering net T k m None
+none_next net T k m (Some r) e n = let z : ◌≡◌ {A = ℕ} 0 1 = cc in absurd (omega arith)
+none_next net T k m None e n = (refl, n)

@@ -1,11 +1,12 @@
 -- What the calls on a walk answer, once n exchanges of the listing of a net were handed on. Assumes nothing.
-use Rattle.std.specs.Prelude.{◌≡◌, ℕ, ◌+◌, ◌-◌, min, Bool, true, false, cond, ◌≢◌, List, map, length, take, drop, fold, Result, MatchResult, ◌==◌}
-use Rattle.faults.specs.declared.BoardFault.{BoardFault}
-use Rattle.faults.specs.declared.BoardFault.TheVariants.{RowLength}
+use Rattle.std.specs.Prelude.{◌≡◌, ℕ, ◌+◌, ◌-◌, min, cond, ◌⊎◌, List, length, take, drop, Some, None, Option, fold, ◌==◌}
 use Rattle.net.specs.Nets.{Net}
 use Rattle.net.specs.Settings.{Setting}
 use Rattle.survey.specs.Surveys.{start_setting}
 use Rattle.trees.specs.Listings.{Exchanged, listing, reached_by, told}
+use Rattle.collectors.specs.declared.exchange.Exchange.{Exchange}
+use Rattle.collectors.specs.Exchanges.{said_by}
+use Rattle.walk.specs.Rests.{first}
 use Rattle.walk.specs.declared.answers.Word.{Word}
 use Rattle.walk.specs.declared.answers.Advance.{Advance}
 use Rattle.walk.specs.declared.answers.Look.{Look}
@@ -26,10 +27,10 @@ reached_after net n = reached_by (start_setting net) (handed_on net n)
 abbrev pub word_of : ℕ → ℕ → ℕ → Word
 word_of left count spare = cond (left == 0) Word.Finished (cond (count == spare) Word.Full Word.Spent)
 
--- A collector takes an exchange, or has no spare left and stays as it is.
-abbrev pub Accepts : {Sum : Type 0} → (Sum → Exchanged → Sum) → Sum → ℕ → Exchanged → Bool → Sum → ℕ → Type 0
-Accepts rule sum spare x true sum' spare' = (spare ≡ spare' + 1) × (sum' ≡ rule sum x)
-Accepts rule sum spare x false sum' spare' = (spare ≡ 0) × (spare' ≡ 0) × (sum' ≡ sum)
+-- The next exchange is handed on: the sum moves by it, and the spare falls by 1. Where none is left, or no spare, none is and all stays.
+abbrev pub HandsOne : {Sum : Type 0} → (Sum → Exchanged → Sum) → Net → ℕ → ℕ → Sum → ℕ → Sum → ℕ → Option Exchange → Type 0
+HandsOne rule net n n' sum spare sum' spare' (Some x) = (first (drop n (listing net)) ≡ Some (said_by x)) × (n' ≡ n + 1) × (sum' ≡ rule sum (said_by x)) × (spare ≡ spare' + 1)
+HandsOne rule net n n' sum spare sum' spare' None = ((left_after net n ≡ 0) ⊎ (spare ≡ 0)) × (n' ≡ n) × (sum' ≡ sum) × (spare' ≡ spare)
 
 -- An advance hands on the listing's next exchanges, the least of allowance, spare and exchanges left: the sum moves by exactly them, in order, and the spare falls by their number.
 pub record Advances {Sum : Type 0} (rule : Sum → Exchanged → Sum) (net : Net) (n n' allowance : ℕ) (sum : Sum) (spare : ℕ) (sum' : Sum) (spare' : ℕ) (r : Advance) : Type 0 where
@@ -44,13 +45,3 @@ pub record Looks (net : Net) (n : ℕ) (r : Look) : Type 0 where
   pub settings : r.settings ≡ length (told net (handed_on net n))
   pub exchanges : r.exchanges ≡ n
   pub finished : r.finished ≡ (left_after net n == 0)
-
--- A setting as a row of one byte a link: 1 closed, 0 open.
-abbrev pub row_of : Setting → List ℕ
-row_of T = map (λ c. cond c 1 0) T
-
--- A present fills a row of one byte a link with the setting reached; another row is refused and stays.
-abbrev pub Presents : Net → ℕ → List ℕ → Result (Unit {0}) BoardFault → List ℕ → Type 0
-Presents net n row r row' = MatchResult r
-    (λ _. (length row ≡ length net.links) × (row' ≡ row_of (reached_after net n)))
-    (λ f. (length row ≢ length net.links) × (f ≡ RowLength) × (row' ≡ row))

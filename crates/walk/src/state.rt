@@ -10,6 +10,7 @@ mod calls;
 mod readings;
 
 // A place in the listing, and how many settings and exchanges were told.
+// That the net stays is a clause of each call: one word for that and the rest would only hide it.
 #[derive(Clone, Copy)]
 pub struct Walk {
     cursor: Cursor,

@@ -37,10 +37,11 @@ impl Packer {
     }
 
     // Whether the whole stream is written.
+    #[tactic(auto, using(crate::proofs::Packed::done_coming, crate::proofs::Packed::not_done_coming))]
     pub fn is_done(&self) -> bool
         ensures { result ≡ (length (coming_of self.now) == 0) }
     {
-        self.stage.is_last()
+        matches!(self.stage, Stage::Done)
     }
 
     // At the head of the stream.
@@ -59,7 +60,7 @@ impl Packer {
         requires { self.old.stage ≡ Stage.Head }
         ensures { Fills writer.old self.old writer.new self.new }
     {
-        if put_head(self.walk.site(), writer) {
+        if put_head(self.walk.site(), writer).is_ok() {
             self.stage = Stage::Exchanges;
         }
     }

@@ -1,4 +1,4 @@
-// The moves of a search.
+// The moves of a search. Those that answer yes or no have nothing else to tell.
 ghost use Rattle.std.specs.Prelude.{◌≡◌};
 ghost use Rattle.std.specs.Option.{option_map};
 ghost use Rattle.search.specs.Descents.{ToChild, ToLower, ToParent};
@@ -37,9 +37,7 @@ impl Search {
         ensures net { net_in self.new ≡ net_in self.old }
         ensures moved { ToParent (descent_of self.old) (ceiling_of self.old) (option_map ranks_of result) (descent_of self.new) (ceiling_of self.new) }
     {
-        if self.is_at_start() {
-            return None;
-        }
-        Some(self.pop())
+        let last = self.depth.checked_sub(1)?;
+        Some(self.pop(last))
     }
 }

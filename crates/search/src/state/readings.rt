@@ -1,23 +1,22 @@
 // What a search answers of where it stands.
-ghost use Rattle.std.specs.Prelude.{◌≡◌, false, length, ◌==◌, nat_le};
+ghost use Rattle.std.specs.Prelude.{◌≡◌, false};
 ghost use Rattle.std.specs.Option.{option_map};
 ghost use Rattle.net.specs.Nets.{nth};
-ghost use Rattle.trees.specs.Rules.{start_link_of};
-ghost use Rattle.search.specs.Descents.{link_at, last_move};
+ghost use Rattle.flood.specs.Rows.{Presents};
+ghost use Rattle.search.specs.Descents.{LinksOf, last_move};
 ghost use Rattle.search.specs.Frames.{ranks_of};
 ghost use Rattle.search.specs.States.{net_in, descent_of, setting_of, ceiling_of};
 
 use super::{Move, Search};
-use crate::ranked::{link_at, start_at};
-use net::NetSource;
+use faults::BoardFault;
 use survey::Surveyed;
 
 impl Search {
     // The net that is searched.
     pub fn site(&self) -> &Surveyed
-        ensures { result.now ≡ self.now.site }
+        ensures { result.now ≡ self.now.switches.site }
     {
-        &self.site
+        self.switches.site()
     }
 
     // The rank of the leaving link; 0 where none may leave any more.
@@ -31,43 +30,30 @@ impl Search {
     pub fn is_closed(&self, link: u64) -> bool
         ensures { result ≡ nth (setting_of self.now) link false }
     {
-        if !self.is_link(link) {
-            return false;
-        }
-        self.closed.has(link)
+        self.switches.has_closed(link)
     }
 
-    // The leaving link and the entering link of a move; 0 for a rank that no link has.
-    pub fn links_of(&self, moved: Move) -> (u32, u32)
-        ensures { result ≡ (start_link_of (net_in self.now) moved.leaving, link_at (net_in self.now) moved.entering) }
+    // Fills a row of one byte a link with the setting: 1 closed, 0 open. Another row is refused.
+    pub fn present(&self, row: &mut [u8]) -> Result<(), BoardFault>
+        ensures { Presents (net_in self.now) (setting_of self.now) row.old result row.new }
     {
-        (
-            start_at(&self.site, moved.leaving),
-            link_at(&self.site, moved.entering),
-        )
+        self.switches.present(row)
+    }
+
+    // The leaving link and the entering link of a move; none if one of its ranks has no link.
+    pub fn links_of(&self, moved: Move) -> Option<(u32, u32)>
+        ensures { LinksOf (net_in self.now) moved.leaving moved.entering result }
+    {
+        let leaving = self.site().start_link(moved.leaving)?;
+        let entering = self.site().link_at_rank(moved.entering)?;
+        Some((leaving, entering))
     }
 
     // The last exchange that was not taken back; none at the start setting.
     pub fn last_move(&self) -> Option<Move>
         ensures { option_map ranks_of result ≡ last_move (descent_of self.now) }
     {
-        if self.is_at_start() {
-            return None;
-        }
-        Some(self.frames[self.depth - 1].moved)
-    }
-
-    // Whether this is at most the number of links.
-    fn is_link(&self, link: u64) -> bool
-        ensures { result ≡ nat_le link (length (net_in self.now).links) }
-    {
-        link <= self.site.links()
-    }
-
-    // Whether no exchange was made, or all were taken back.
-    pub(super) fn is_at_start(&self) -> bool
-        ensures { result ≡ (self.now.depth == 0) }
-    {
-        self.depth == 0
+        let last = self.depth.checked_sub(1)?;
+        Some(self.frames[last].moved)
     }
 }

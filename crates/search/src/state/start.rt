@@ -2,14 +2,15 @@
 ghost use Rattle.std.specs.Prelude.{◌≡◌, ◌-◌, []};
 ghost use Rattle.survey.specs.Surveys.{start_setting};
 ghost use Rattle.survey.specs.Answers.{net_of};
-ghost use Rattle.flood.specs.Marked.{row_in, fed_in};
-ghost use Rattle.search.specs.Frames.{fed_without, start_feds, start_feds_in, above0};
+ghost use Rattle.trees.specs.Rules.{IsStart};
+ghost use Rattle.flood.specs.Marked.{switched, fed_in};
+ghost use Rattle.search.specs.Frames.{fed_without, start_feds, start_feds_in};
 ghost use Rattle.search.specs.States.{net_in, descent_of, ceiling_of};
 
 use super::{Frame, Move, Search};
-use crate::ranked::start_at;
-use flood::{Marks, flood};
+use flood::{Marks, Switches};
 use net::NetSource;
+use std::array;
 use survey::Surveyed;
 
 impl Search {
@@ -19,18 +20,17 @@ impl Search {
         ensures setting { descent_of result ≡ [] }
         ensures ceiling { ceiling_of result ≡ (net_of site.now).bars - 1 }
     {
-        let closed = start_row(site);
-        let starts = feed_starts(site, &closed);
+        let switches = Switches::at_start(site);
+        let starts = feed_starts(&switches);
         let ceiling = site.bars() as usize - 1;
-        let fed = feed_at(site, &closed, ceiling);
+        let fed = feed_without(&switches, ceiling);
         let moved = Move {
             leaving: 0,
             entering: 0,
         };
         Search {
-            site: *site,
+            switches,
             starts,
-            closed,
             ceiling,
             fed,
             frames: [Frame { moved, fed }; 32],
@@ -39,44 +39,20 @@ impl Search {
     }
 }
 
-// The start links closed, all others open.
-fn start_row(site: &Surveyed) -> Marks<60>
-    ensures { row_in (net_of site.now) result ≡ start_setting (net_of site.now) }
-{
-    let mut closed = Marks::new();
-    for rank in 1..site.bars() as usize {
-        closed.put(u64::from(start_at(site, rank)), true);
-    }
-    closed
-}
-
 // The bars fed without each start link, by rank.
-fn feed_starts(site: &Surveyed, closed: &Marks<60>) -> [Marks<32>; 32]
-    requires { row_in (net_of site.now) closed.now ≡ start_setting (net_of site.now) }
-    ensures { start_feds_in (net_of site.now) result ≡ start_feds (net_of site.now) }
+fn feed_starts(switches: &Switches) -> [Marks<32>; 32]
+    requires { switched switches.now ≡ start_setting (net_of switches.now.site) }
+    ensures { start_feds_in (net_of switches.now.site) result ≡ start_feds (net_of switches.now.site) }
 {
-    let mut starts = [Marks::new(); 32];
-    for rank in 1..site.bars() as usize {
-        starts[rank - 1] = feed_without(site, closed, rank);
-    }
-    starts
+    array::from_fn(|at| feed_without(switches, at + 1))
 }
 
-// The bars fed without the start link at the ceiling; nothing is asked at ceiling 0.
-pub(crate) fn feed_at(site: &Surveyed, closed: &Marks<60>, ceiling: usize) -> Marks<32>
-    ensures { above0 ceiling (fed_in (net_of site.now) result) ≡ above0 ceiling (fed_without (net_of site.now) (row_in (net_of site.now) closed.now) ceiling) }
+// The bars fed without the start link of a rank; nothing is asked of what is no rank of a start link.
+pub(crate) fn feed_without(switches: &Switches, rank: usize) -> Marks<32>
+    ensures { IsStart (net_of switches.now.site) rank → fed_in (net_of switches.now.site) result ≡ fed_without (net_of switches.now.site) (switched switches.now) rank }
 {
-    if ceiling == 0 {
-        return Marks::new();
+    match switches.site().start_link(rank) {
+        Some(link) => switches.flood_without(u64::from(link)),
+        None => Marks::new(),
     }
-    feed_without(site, closed, ceiling)
-}
-
-// The bars fed without the start link of a rank.
-fn feed_without(site: &Surveyed, closed: &Marks<60>, rank: usize) -> Marks<32>
-    ensures { fed_in (net_of site.now) result ≡ fed_without (net_of site.now) (row_in (net_of site.now) closed.now) rank }
-{
-    let mut without = *closed;
-    without.put(u64::from(start_at(site, rank)), false);
-    flood(site, &without)
 }

@@ -1,11 +1,11 @@
 // The exchange that comes next, and the step past it.
 ghost use Rattle.std.specs.Prelude.{◌≡◌, ℕ, ◌-◌, true, false, not, take, drop, is_some, Some};
 ghost use Rattle.std.specs.Option.{option_map};
-ghost use Rattle.net.specs.Nets.{nth};
 ghost use Rattle.survey.specs.Surveys.{start_setting};
 ghost use Rattle.survey.specs.Answers.{net_of};
 ghost use Rattle.trees.specs.Rules.{start_link_of};
 ghost use Rattle.trees.specs.Listings.{forward, back, listing, reached_by};
+ghost use Rattle.flood.specs.Rows.{Presents};
 ghost use Rattle.search.specs.Descents.{link_at, setting_at};
 ghost use Rattle.search.specs.States.{net_in, descent_of, setting_of, ceiling_of};
 ghost use Rattle.collectors.specs.Exchanges.{said_by};
@@ -14,6 +14,7 @@ ghost use Rattle.walk.specs.Cursors.{net_at, reached_at, coming_at, MayMove, exc
 
 use super::Cursor;
 use collectors::{Exchange, Kind};
+use faults::BoardFault;
 use search::{Move, Search};
 use survey::Surveyed;
 
@@ -24,16 +25,11 @@ fn settle(search: &mut Search, above: usize) -> Option<usize>
     ensures enters { may_come_next (net_in search.new) (descent_of search.new) (ceiling_of search.new) result ≡ true }
     ensures coming { to_come (net_in search.new) (descent_of search.new) (ceiling_of search.new) result ≡ past (net_in search.old) (setting_of search.old) (ceiling_of search.old) above (climb (net_in search.old) (descent_of search.old)) }
 {
-    let mut above = above;
-    loop {
-        if let Some(rank) = search.entering_above(above) {
-            return Some(rank);
-        }
-        if !search.lower() {
-            return None;
-        }
-        above = 0;
+    let mut entering = search.entering_above(above);
+    while entering.is_none() && search.lower() {
+        entering = search.entering_above(0);
     }
+    entering
 }
 
 impl Cursor {
@@ -55,11 +51,11 @@ impl Cursor {
         self.search.site()
     }
 
-    // Whether a link is closed in the setting reached; no for what is no link.
-    pub(crate) fn is_closed(&self, link: u64) -> bool
-        ensures { result ≡ nth (reached_at self.now) link false }
+    // Fills a row of one byte a link with the setting reached: 1 closed, 0 open. Another row is refused.
+    pub(crate) fn present(&self, row: &mut [u8]) -> Result<(), BoardFault>
+        ensures { Presents (net_at self.now) (reached_at self.now) row.old result row.new }
     {
-        self.search.is_closed(link)
+        self.search.present(row)
     }
 
     // Whether nothing is to come.
@@ -109,7 +105,7 @@ impl Cursor {
         requires { MayMove (net_at self.now) moved }
         ensures { option_map said_by result ≡ Some (exchange_of kind (net_at self.now) moved) }
     {
-        let (leaving, entering) = self.search.links_of(moved);
+        let (leaving, entering) = self.search.links_of(moved)?;
         match kind {
             Kind::Forward => Exchange::new(kind, leaving, entering),
             Kind::Back => Exchange::new(kind, entering, leaving),

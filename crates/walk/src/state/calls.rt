@@ -3,10 +3,11 @@ ghost use Rattle.std.specs.Prelude.{◌≡◌, ◌+◌, true, drop, if◌then◌
 ghost use Rattle.survey.specs.Answers.{net_of};
 ghost use Rattle.trees.specs.Listings.{listing, told};
 ghost use Rattle.trees.specs.Laws.{Ruled, Listed};
+ghost use Rattle.flood.specs.Rows.{Presents};
 ghost use Rattle.collectors.specs.Exchanges.{said_by};
 ghost use Rattle.walk.specs.Rests.{first};
 ghost use Rattle.walk.specs.Told.{Unbroken, Complete};
-ghost use Rattle.walk.specs.Calls.{handed_on, Accepts, Advances, Looks, Presents};
+ghost use Rattle.walk.specs.Calls.{handed_on, reached_after, HandsOne, Advances, Looks};
 ghost use Rattle.walk.specs.Walks.{net_of_walk, handed_by};
 
 use super::Walk;
@@ -14,7 +15,6 @@ use crate::answers::{Advance, Look};
 use crate::cursor::Cursor;
 use collectors::{Collector, Exchange, Kind};
 use faults::BoardFault;
-use net::NetSource;
 use survey::Surveyed;
 
 impl Walk {
@@ -46,14 +46,7 @@ impl Walk {
     {
         let spare = collector.spare();
         let mut count = 0;
-        while count < allowance {
-            let Some(exchange) = self.cursor.next() else {
-                break;
-            };
-            if !offer(collector, exchange) {
-                break;
-            }
-            self.pass(exchange);
+        while count < allowance && self.hand_on(collector).is_some() {
             count += 1;
         }
         let word = self.word(count, spare);
@@ -75,15 +68,20 @@ impl Walk {
 
     // Fills a row of one byte a link with the setting reached: 1 closed, 0 open. Another row is refused.
     pub fn present(&self, row: &mut [u8]) -> Result<(), BoardFault>
-        ensures { Presents (net_of_walk self.now) (handed_by self.now) row.old result row.new }
+        ensures { Presents (net_of_walk self.now) (reached_after (net_of_walk self.now) (handed_by self.now)) row.old result row.new }
     {
-        if row.len() as u64 != self.cursor.site().links() {
-            return Err(BoardFault::RowLength);
-        }
-        for at in 0..row.len() {
-            row[at] = self.byte_of(at as u64 + 1);
-        }
-        Ok(())
+        self.cursor.present(row)
+    }
+
+    // Hands on the exchange that comes next; none where none is left, or the collector has no spare.
+    fn hand_on<C: Collector>(&mut self, collector: &mut C) -> Option<Exchange>
+        ensures net { net_of_walk self.new ≡ net_of_walk self.old }
+        ensures handed { HandsOne C.rule (net_of_walk self.old) (handed_by self.old) (handed_by self.new) (C.sum collector.old) (C.spare collector.old) (C.sum collector.new) (C.spare collector.new) result }
+    {
+        let exchange = self.cursor.next()?;
+        collector.take(exchange).ok()?;
+        self.pass(exchange);
+        Some(exchange)
     }
 
     // Counts the exchange that comes next as told, and steps past it.
@@ -98,19 +96,9 @@ impl Walk {
     }
 }
 
-// Offers an exchange to a collector; whether it was taken.
-fn offer<C: Collector>(collector: &mut C, exchange: Exchange) -> bool
-    ensures { Accepts C.rule (C.sum collector.old) (C.spare collector.old) (said_by exchange) result (C.sum collector.new) (C.spare collector.new) }
-{
-    collector.take(exchange).is_ok()
-}
-
 // How many settings an exchange tells: one if it goes forward, none if it goes back.
 fn settings_told(exchange: Exchange) -> u64
     ensures { result ≡ (if (said_by exchange).0 then 1 else 0) }
 {
-    match exchange.kind() {
-        Kind::Forward => 1,
-        Kind::Back => 0,
-    }
+    u64::from(exchange.kind() == Kind::Forward)
 }

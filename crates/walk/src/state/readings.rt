@@ -1,8 +1,7 @@
 // What a walk holds, as its calls answer it.
-ghost use Rattle.std.specs.Prelude.{◌≡◌, false, length, if◌then◌else◌, ◌==◌};
-ghost use Rattle.net.specs.Nets.{nth};
+ghost use Rattle.std.specs.Prelude.{◌≡◌, length, ◌==◌};
 ghost use Rattle.trees.specs.Listings.{told};
-ghost use Rattle.walk.specs.Calls.{handed_on, left_after, reached_after, word_of};
+ghost use Rattle.walk.specs.Calls.{handed_on, left_after, word_of};
 ghost use Rattle.walk.specs.Walks.{net_of_walk, handed_by};
 
 use super::Walk;
@@ -28,13 +27,6 @@ impl Walk {
         ensures { result ≡ (left_after (net_of_walk self.now) (handed_by self.now) == 0) }
     {
         self.cursor.is_done()
-    }
-
-    // The byte of a link in the setting reached: 1 closed, 0 open.
-    pub(super) fn byte_of(&self, link: u64) -> u8
-        ensures { result ≡ (if nth (reached_after (net_of_walk self.now) (handed_by self.now)) link false then 1 else 0) }
-    {
-        if self.cursor.is_closed(link) { 1 } else { 0 }
     }
 
     // How an advance ended that handed on so many, with so much spare before it.

@@ -1,24 +1,25 @@
-use Rattle.std.proofs.Common.{◌≡◌, ◌-◌, length, take, sym, ap, ◌∙◌, arith}
-use Rattle.std.proofs.lemmas.List.{length-set, take_all}
-use Rattle.survey.specs.Surveys.{start_links}
+use Rattle.std.proofs.Common.{suc, ◌++◌, [], ◌∷◌, length, get_or, sym, ap, ◌∙◌, arith}
+use Rattle.std.proofs.lemmas.List.{take_more, length-take-le}
 use Rattle.survey.specs.Answers.{net_of}
-use Rattle.survey.proofs.Whole.{surveyed_fits, surveyed_starts}
-use Rattle.roundtrip.proofs.Heads.{table_next}
+use Rattle.survey.proofs.Whole.{surveyed_fits, surveyed_reached, surveyed_starts}
+use Rattle.roundtrip.proofs.Heads.{start_fits}
 use Rattle.roundtrip.proofs.head.start_numbers.Goals as goal
 
-pub loop-rank-preserved : goal.loop-rank-preserved
-loop-rank-preserved c =
-    let site = c.args.site.now in (
-      length-set c.loop-rank.numbers (c.loop-rank.rank - 1) c.start_number.result ∙ c.loop-rank.invariant.0,
-      table_next (net_of site) c.loop-rank.numbers c.loop-rank.rank c.start_number.result c.loop-rank.auto.rank
-          (omega (arith, c.loop-rank-test.true, c.bars-rank-end.ensures, surveyed_starts site))
-          (omega (arith, c.loop-rank.invariant.0, c.loop-rank-test.true, c.bars-rank-end.ensures, (surveyed_fits site).few_bars))
-          c.loop-rank.invariant.1 c.start_number.ensures,
-    )
-
-pub returns : goal.returns
-returns c =
+pub overflow_cast-link : goal.overflow_cast-link
+overflow_cast-link c =
     let site = c.args.site.now in
-    let starts = start_links (net_of site) in
-    let far : c.loop-rank.rank - 1 ≡ length starts = omega (arith, c.loop-rank-test.false, c.loop-rank.auto.rank-end, c.bars-rank-end.ensures, surveyed_starts site, (surveyed_fits site).few_bars) in
-    ap (λ n. take n c.loop-rank.numbers) (sym far) ∙ c.loop-rank.invariant.1 ∙ ap (λ n. take n starts) far ∙ take_all (length starts) starts (omega arith)
+    let i = c.loop-link.link-index in
+    omega (arith, ap (λ xs. get_or xs i 0) c.start_links-link-items.ensures, start_fits (net_of site) (surveyed_fits site) (surveyed_reached site) (suc i))
+
+pub push-requires : goal.push-requires
+push-requires c =
+    let site = c.args.site.now in
+    let i = c.loop-link.link-index in
+    let links = c.start_links-link-items.result.now in
+    omega (arith, ap length c.loop-link.invariant, length-take-le i links (omega arith), ap length c.start_links-link-items.ensures, surveyed_starts site, (surveyed_fits site).few_bars)
+
+pub loop-link-preserved : goal.loop-link-preserved
+loop-link-preserved c =
+    let i = c.loop-link.link-index in
+    let links = c.start_links-link-items.result.now in
+    c.push.ensures.items ∙ ap (λ xs. xs ++ (get_or links i 0 ∷ [])) c.loop-link.invariant ∙ sym (take_more links i 0 (omega arith))

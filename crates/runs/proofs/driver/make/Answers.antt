@@ -1,4 +1,8 @@
-use Rattle.std.proofs.Common.{refl, arith}
+use Rattle.std.proofs.Common.{vec_items, sym, refl, subst, arith}
+use Rattle.std.specs.Vec.{with_items}
+use Rattle.std.proofs.lemmas.List.{with_items_is}
+use Rattle.flood.specs.Rows.{Presents}
+use Rattle.walk.specs.Calls.{reached_after}
 use Rattle.walk.specs.Walks.{net_of_walk, handed_by}
 use Rattle.walk.proofs.Answered.{handed_within}
 use Rattle.runs.proofs.Made.{advance_answered, look_answered, present_answered}
@@ -8,9 +12,9 @@ pub returns-in-Advance : goal.returns-in-Advance
 returns-in-Advance g c =
     let w = c.args.walk.now in
     let K = g.C.Collector in
-    let (on, answered) = advance_answered K.sum K.spare K.rule (net_of_walk w) (handed_by w) (handed_within w) c.args.call.now (handed_by c.hand_on.new.walk)
-    c.in-Advance.allowance c.in-Advance.collector c.hand_on.new.collector c.in-Advance.answer c.hand_on.result c.in-Advance.is c.hand_on.ensures.advanced in
-    record { net = c.hand_on.ensures.net; on = on; answered = answered }
+    let (on, answered) = advance_answered K.sum K.spare K.rule (net_of_walk w) (handed_by w) (handed_within w) c.args.call.now (handed_by c.advance.new.self)
+    c.in-Advance.allowance c.in-Advance.collector c.advance.new.collector c.in-Advance.answer c.advance.result c.in-Advance.is c.advance.ensures.advanced in
+    record { net = c.advance.ensures.net; on = on; answered = answered }
 
 pub returns-in-Look : goal.returns-in-Look
 returns-in-Look g c =
@@ -19,16 +23,20 @@ returns-in-Look g c =
     record {
       net = refl;
       on = omega arith;
-      answered = look_answered K.sum K.spare K.rule (net_of_walk w) (handed_by w) (handed_within w) c.args.call.now c.in-Look.answer c.see.result c.in-Look.is c.see.ensures;
+      answered = look_answered K.sum K.spare K.rule (net_of_walk w) (handed_by w) (handed_within w) c.args.call.now c.in-Look.answer c.look.result c.in-Look.is c.look.ensures.answer c.look.ensures.complete;
     }
 
 pub returns-in-Present : goal.returns-in-Present
 returns-in-Present g c =
     let w = c.args.walk.now in
     let K = g.C.Collector in
+    let row = c.in-Present.row in
+    let shown = subst (Presents (net_of_walk w) (reached_after (net_of_walk w) (handed_by w)) (vec_items row) c.present.result)
+    (sym (with_items_is row c.present.new.row (omega (arith, c.present.auto.row, c.as_mut_slice.ensures.len))))
+    (subst (λ xs. Presents (net_of_walk w) (reached_after (net_of_walk w) (handed_by w)) xs c.present.result c.present.new.row) c.as_mut_slice.ensures.value c.present.ensures) in
     record {
       net = refl;
       on = omega arith;
       answered = present_answered K.sum K.spare K.rule (net_of_walk w) (handed_by w) (handed_within w) c.args.call.now
-          c.in-Present.row c.show.new.row c.in-Present.answer c.show.result c.in-Present.is c.show.ensures;
+          row (with_items row c.present.new.row) c.in-Present.answer c.present.result c.in-Present.is shown;
     }

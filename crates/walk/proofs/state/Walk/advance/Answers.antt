@@ -1,51 +1,56 @@
-use Rattle.std.proofs.Common.{◌+◌, ◌≤◌, length, sym, ap, ◌∙◌, subst, ap₂, inl, inr, arith}
+use Rattle.std.proofs.Common.{sym, ap, ◌∙◌, ap₂, inl, inr, arith, drop}
 use Rattle.trees.specs.Listings.{listing}
-use Rattle.collectors.specs.Exchanges.{said_by}
 use Rattle.walk.specs.Calls.{left_after, word_of}
+use Rattle.walk.specs.Rests.{first}
 use Rattle.walk.specs.Walks.{net_of_walk, handed_by}
-use Rattle.walk.proofs.Answered.{fold_more, first_coming, none_left, ended}
+use Rattle.walk.proofs.Answered.{fold_more, one_handed, none_handed, advanced}
 use Rattle.walk.proofs.state.Walk.advance.Goals as goal
-use Rattle.walk.proofs.state.Walk.advance.Goals.{else-loop-count-test, then-loop-count-test+in_default, then-loop-count-test+in-Some+then-not-offer}
+use Rattle.walk.proofs.state.Walk.advance.Goals.{then-loop-count-test+else-is_some, else-loop-count-test}
 
 pub loop-count-preserved : goal.loop-count-preserved
 loop-count-preserved g c =
-    let inv = c.loop-count.invariant in
+    let K = g.C.Collector in
     let w = c.args.self.now in
-    let rule = g.C.Collector.rule in (
-      c.pass.ensures.net ∙ inv.0,
-      omega (arith, c.pass.ensures.on, inv.1),
-      c.if-not-offer.ensures.1
-          ∙ ap (λ s. rule s (said_by c.in-Some.exchange)) inv.2
-          ∙ sym (fold_more rule (g.C.Collector.sum c.args.collector.now) (listing (net_of_walk w)) (handed_by w) c.loop-count.count (said_by c.in-Some.exchange)
-          (first_coming c.loop-count.self (net_of_walk w) (handed_by w + c.loop-count.count) (said_by c.in-Some.exchange) inv.0 inv.1 c.in-Some.ensures)),
-      omega (arith, c.if-not-offer.ensures.0, inv.3),
+    let v = c.loop-count.self in
+    let inv = c.loop-count.invariant in
+    let (x, next, on, moved, used) = one_handed K.rule (net_of_walk v) (handed_by v) (handed_by c.hand_on.new.self) (K.sum c.loop-count.collector) (K.spare c.loop-count.collector)
+    (K.sum c.hand_on.new.collector) (K.spare c.hand_on.new.collector) c.hand_on.result (sym c.is_some.ensures ∙ c.if-is_some.true) c.hand_on.ensures.handed in (
+      c.hand_on.ensures.net ∙ inv.0,
+      omega (arith, on, inv.1),
+      moved
+          ∙ ap (λ s. K.rule s x) inv.2
+          ∙ sym (fold_more K.rule (K.sum c.args.collector.now) (listing (net_of_walk w)) (handed_by w) c.loop-count.count x
+          (ap₂ (λ k m. first (drop k (listing m))) (sym inv.1) (sym inv.0) ∙ next)),
+      omega (arith, used, inv.3),
       omega arith,
     )
 
 pub returns : goal.returns
 returns g c =
+    let K = g.C.Collector in
     let w = c.args.self.now in
-    let v = c.loop-count.self in
+    let v = c.loop-count-test.self in
     let inv = c.loop-count.invariant in
-    let sum = g.C.Collector.sum in
-    let spare = g.C.Collector.spare in
-    let within : handed_by v ≤ length (listing (net_of_walk w)) = subst (λ net. handed_by v ≤ length (listing net)) inv.0 v.within in
-    let word = c.word-word.ensures ∙ ap₂ (λ net s. word_of (left_after net (handed_by v)) c.loop-count.count s) inv.0 c.spare-spare.ensures in
-    let all = ended g.C.Collector.rule (net_of_walk w) (handed_by w) (handed_by v) c.args.allowance (sum c.args.collector.now) (spare c.args.collector.now) in
-    record {
-      net = inv.0;
-      advanced = elim c.loop-count-test.branch [
-        | else-loop-count-test way ↦
-            all (sum c.loop-count-test.collector) (spare c.loop-count-test.collector) (record { count = c.loop-count.count; word = c.word-word.result })
-            inv.1 (ap sum way.collector-is ∙ inv.2) (omega (arith, inv.3, ap spare way.collector-is)) inv.4 within word (inl way.loop-count-test.false)
-        | then-loop-count-test+in_default way ↦
-            all (sum c.loop-count-test.collector) (spare c.loop-count-test.collector) (record { count = c.loop-count.count; word = c.word-word.result })
-            inv.1 (ap sum way.collector-is ∙ inv.2) (omega (arith, inv.3, ap spare way.collector-is)) inv.4 within word
-            (inr (inl (ap (λ net. left_after net (handed_by v)) (sym inv.0) ∙ none_left v way.in_default.ensures)))
-        | then-loop-count-test+in-Some+then-not-offer way ↦
-            let refused = way.if-not-offer.ensures in
-            all (sum c.loop-count-test.collector) (spare c.loop-count-test.collector) (record { count = c.loop-count.count; word = c.word-word.result })
-            inv.1 (ap sum way.collector-is ∙ refused.2 ∙ inv.2) (omega (arith, inv.3, refused.0, refused.1, ap spare way.collector-is)) inv.4 within word
-            (inr (inr (ap spare way.collector-is ∙ refused.1)))
-      ];
-    }
+    let word = c.word-word.ensures ∙ ap (word_of (left_after (net_of_walk v) (handed_by v)) c.loop-count.count) c.spare-spare.ensures in
+    let all = advanced K.rule w v c.args.allowance (K.sum c.args.collector.now) (K.spare c.args.collector.now) (K.sum c.loop-count-test.collector) (K.spare c.loop-count-test.collector) (record { count = c.loop-count.count; word = c.word-word.result }) in
+    elim c.loop-count-test.branch [
+      | else-loop-count-test way ↦
+          let same = ap net_of_walk way.self-is ∙ inv.0 in
+          record {
+            net = same;
+            advanced = all same (ap handed_by way.self-is ∙ inv.1) (ap K.sum way.collector-is ∙ inv.2) (omega (arith, inv.3, ap K.spare way.collector-is)) inv.4 word (inl way.loop-count-test.false);
+          }
+      | then-loop-count-test+else-is_some way ↦
+          let u = c.loop-count.self in
+          let same = ap net_of_walk way.self-is ∙ way.hand_on.ensures.net ∙ inv.0 in
+          let (none, on, moved, used) = none_handed K.rule (net_of_walk u) (handed_by u) (handed_by way.hand_on.new.self) (K.sum c.loop-count.collector) (K.spare c.loop-count.collector)
+          (K.sum way.hand_on.new.collector) (K.spare way.hand_on.new.collector) way.hand_on.result (sym way.is_some.ensures ∙ way.if-is_some.false) way.hand_on.ensures.handed in
+          record {
+            net = same;
+            advanced = all same (ap handed_by way.self-is ∙ on ∙ inv.1) (ap K.sum way.collector-is ∙ moved ∙ inv.2) (omega (arith, inv.3, used, ap K.spare way.collector-is)) inv.4 word
+                (inr (elim none [
+                  | inl z ↦ inl (ap₂ left_after (ap net_of_walk way.self-is ∙ way.hand_on.ensures.net) (ap handed_by way.self-is ∙ on) ∙ z)
+                  | inr z ↦ inr (ap K.spare way.collector-is ∙ used ∙ z)
+                ]));
+          }
+    ]
