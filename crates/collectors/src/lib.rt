@@ -2,7 +2,6 @@
 #![tactic(auto)]
 
 mod collector;
-mod either;
 mod exchange;
 mod mixed;
 

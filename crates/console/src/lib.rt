@@ -1,7 +1,8 @@
-// What the programs share: a site read from standard input, and a refusal printed.
+// What the programs share: a site read from standard input, a refusal printed, and how much is written at a time. Their first and
+// last lines are their own: one function for them would take the rest as a closure, and ask of its caller that it may be called.
 #![tactic(auto)]
 
-ghost use Rattle.std.specs.Prelude.{◌≡◌, IfOk, IfSome};
+ghost use Rattle.std.specs.Prelude.{IfOk, IfSome};
 ghost use Rattle.net.specs.Settings.{Setting, Radial};
 ghost use Rattle.survey.specs.Answers.{net_of};
 
@@ -10,6 +11,9 @@ use intake::intake;
 use std::io::Read;
 use survey::Surveyed;
 use text::{MOST_BYTES, MOST_NUMBERS};
+
+// The bytes of output that a program gathers before it writes them: any head, line, exchange or end fits.
+pub const BUFFER: usize = 65536;
 
 // Reads a site from standard input. One that is handed on has a radial setting; another is refused on standard output, and there is none.
 pub fn read_site(rt: &HostRuntime) -> anyhow::Result<Option<Surveyed>>
@@ -22,17 +26,18 @@ pub fn read_site(rt: &HostRuntime) -> anyhow::Result<Option<Surveyed>>
     let row = Vec::with_capacity(rt.alloc(), MOST_NUMBERS)?;
     match intake(bytes.as_slice(), row) {
         Ok(site) => Ok(Some(site)),
-        Err(fault) => refuse(rt, fault),
+        Err(fault) => {
+            refuse(rt, fault)?;
+            Ok(None)
+        }
     }
 }
 
-// Prints a refusal on standard output, or want of memory on standard error; there is no site then.
-fn refuse(rt: &HostRuntime, fault: Fault) -> anyhow::Result<Option<Surveyed>>
-    ensures { IfOk result (λ found. found ≡ None) }
-{
+// Prints a refusal on standard output, or want of memory on standard error.
+fn refuse(rt: &HostRuntime, fault: Fault) -> anyhow::Result<()> {
     match fault.refusal() {
         Some(refusal) => rt.println(refusal)?,
         None => rt.eprintln("out of memory")?,
     }
-    Ok(None)
+    Ok(())
 }

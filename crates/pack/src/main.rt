@@ -1,14 +1,11 @@
 // Reads a net from standard input and writes the stream of its radial settings to standard output.
 #![tactic(auto)]
 
-use console::read_site;
+use console::{BUFFER, read_site};
 use roundtrip::Packer;
 use std::io::Write;
 use std::process::ExitCode;
 use stream::Writer;
-
-// The bytes that are written at a time: the head, the end and any exchange fit.
-const BUFFER: usize = 65536;
 
 fn main(rt: HostRuntime) -> anyhow::Result<ExitCode> {
     let Some(site) = read_site(&rt)? else {
@@ -16,6 +13,7 @@ fn main(rt: HostRuntime) -> anyhow::Result<ExitCode> {
     };
     let mut buffer = vec![in rt.alloc(); 0u8; BUFFER]?;
     let mut packer = Packer::new(&site);
+    // Counted and left by `break`, since no promise of `fill` says that the packer gets done.
     for _ in 0..u64::MAX {
         let mut writer = Writer::new(buffer.as_mut_slice());
         packer.fill(&mut writer);

@@ -1,29 +1,34 @@
 -- Tables of links filled, or counted on, record by record.
-use Rattle.std.proofs.Common.{◌≡◌, ℕ, suc, ◌+◌, ◌-◌, ◌<◌, ◌≤◌, true, false, List, [], ◌∷◌, ◌++◌, map, length, get_or, take, drop, set, sym, ap, ◌∙◌, ap₂, arith}
-use mathlib.Core.List.{map-append}
+use Rattle.std.proofs.Common.{◌≡◌, ℕ, zero, suc, ◌+◌, ◌-◌, ◌<◌, ◌≤◌, true, false, List, ◌++◌, map, length, get_or, take, drop, set, sym, subst, ap, ◌∙◌, arith}
 use Rattle.std.specs.List.{range_with_len}
-use Rattle.std.proofs.lemmas.List.{take_all, drop_all, take_more_set, get_or-map, get_or-drop, get_or-append_right, length-map, length-take-le, map-set, append-nil}
+use Rattle.std.specs.Fn.{Called, Mut}
+use Rattle.std.specs.Array.{IsElementAt, IsFromFnResult, IsFromFnResultFrom}
+use native.Mathlib.Decide.{dec_le}
+use Rattle.std.proofs.lemmas.List.{same_lists, get_or-map, get_or-drop, get_or-append_right, length-map, length-take-le, map-set}
 use Rattle.std.proofs.lemmas.List.Edits.{map_over_more}
-use Rattle.std.proofs.lemmas.List.FromFn.{map-range_with_len_more}
+use Rattle.std.proofs.lemmas.List.FromFn.{length-map-range_with_len, get_or-map-range_with_len}
 use Rattle.tally.specs.declared.counts.LinkCount.{LinkCount}
-use Rattle.tally.specs.Counts.{Counts, counted_once_more, counts_to}
+use Rattle.tally.specs.Counts.{counted_once_more, counts_to}
 use Rattle.tally.specs.Tables.{count_of, counts_in}
 use Rattle.tally.proofs.Bounds.{counts_to_nth}
 
--- a table filled by number: one more, and all
-pub fill_more : {A B : Type 0} (f : A → B) (h : ℕ → B) (xs : List A) (i : ℕ) (x : A) → i < length xs
-    → map f (take i xs) ≡ map h (range_with_len 1 i) → f x ≡ h (i + 1) → map f (take (i + 1) (set xs i x)) ≡ map h (range_with_len 1 (i + 1))
-fill_more f h xs i x lt inv e =
-    ap (map f) (take_more_set xs i x lt)
-    ∙ map-append f (take i xs) (x ∷ [])
-    ∙ ap₂ (λ ys y. ys ++ y ∷ []) inv e
-    ∙ sym (map-range_with_len_more h 1 i (i + 1) (omega arith))
+module _ {F B C : Type 0} (g : Mut F (ℕ × Unit {0}) B) (v : B → C) (h : ℕ → C) (f : F)
+    (calls : (i : ℕ) (y : B) (q : F) → Called g f (i, tt) y q → (v y ≡ h (i + 1)) × (q ≡ f)) (ys : List B) where
+  -- an array that a closure made which each call leaves as it is: one place, and all
+  made_at : (i n : ℕ) → IsFromFnResultFrom g f ys i n → (k : ℕ) → i ≤ k → k < i + n → (y : B) × IsElementAt ys k y × (v y ≡ h (k + 1))
+  made_at i zero r k lo hi = absurd (omega arith)
+  made_at i (suc n) (q, y, at, call, rest) k lo hi = elim (dec_le (i + 1) k) [
+    | yes le ↦ made_at (i + 1) n (subst (λ p. IsFromFnResultFrom g p ys (i + 1) n) (calls i y q call).1 rest) k le (omega arith)
+    | no lt ↦ let e : i ≡ k = omega arith in subst (λ j. (z : B) × IsElementAt ys j z × (v z ≡ h (j + 1))) e (y, at, (calls i y q call).0)
+  ]
 
-pub fill_all : {A B : Type 0} (f : A → B) (h : ℕ → B) (xs : List A) (i n : ℕ) → length xs ≡ n → n ≤ i → i ≤ n
-    → map f (take i xs) ≡ map h (range_with_len 1 i) → map f xs ≡ map h (range_with_len 1 n)
-fill_all f h xs i n e lo hi inv =
-    let q : i ≡ n = omega arith in
-    ap (map f) (sym (take_all i xs (omega arith))) ∙ inv ∙ ap (λ m. map h (range_with_len 1 m)) q
+  pub made_all : (n : ℕ) → IsFromFnResult g f ys n → map v ys ≡ map h (range_with_len 1 n)
+  made_all n made =
+      same_lists (map v ys) (map h (range_with_len 1 n)) (length-map ys v ∙ made.long ∙ sym (length-map-range_with_len h 1 n))
+      (λ k d lt.
+      let inside : k < length ys = omega (arith, length-map ys v) in
+      let (y, at, e) = made_at 0 n made.each k (omega arith) (omega (arith, made.long)) in
+      get_or-map v ys k y d inside ∙ ap v at.0 ∙ e ∙ sym (get_or-map-range_with_len h 1 n k (k + 1) d (omega (arith, made.long)) (omega arith)))
 
 module _ (rs₀ rs : List LinkCount) (i : ℕ) (d : LinkCount) (lt : i < length rs₀) (same : length rs ≡ length rs₀)
     (inv : counts_in rs ≡ map counted_once_more (take i (counts_in rs₀)) ++ drop i (counts_in rs₀)) where
@@ -47,7 +52,3 @@ module _ (rs₀ rs : List LinkCount) (i : ℕ) (d : LinkCount) (lt : i < length 
       ∙ ap (set (counts_in rs) i) e
       ∙ map_over_more counted_once_more (counts_in rs₀) (counts_in rs) i (count_of (get_or rs i d)) (omega (arith, length-map rs₀ count_of)) inv
       (sym (get_or-map count_of rs i d (count_of (get_or rs i d)) (omega arith)))
-
-pub count_all : (ks₀ ks : Counts) (i : ℕ) → length ks₀ ≤ i → ks ≡ map counted_once_more (take i ks₀) ++ drop i ks₀ → ks ≡ map counted_once_more ks₀
-count_all ks₀ ks i h inv =
-    inv ∙ ap₂ (λ xs ys. map counted_once_more xs ++ ys) (take_all i ks₀ h) (drop_all i ks₀ h) ∙ append-nil (map counted_once_more ks₀)

@@ -1,5 +1,5 @@
 -- The start: its links come first by rank, and its counts.
-use Rattle.std.proofs.Common.{◌≡◌, ℕ, ◌<◌, ◌≤◌, true, false, ltb, length, Some, None, sym, ◌∙◌, inl, inr, arith}
+use Rattle.std.proofs.Common.{◌≡◌, ℕ, ◌<◌, ◌≤◌, Bool, true, false, ltb, length, Option, Some, None, MatchOption, sym, ◌∙◌, inl, inr, arith}
 use native.Mathlib.Decide.{dec_le}
 use Rattle.std.specs.List.{range_with_len}
 use Rattle.std.proofs.lemmas.List.FromFn.{length-map-range_with_len}
@@ -38,7 +38,7 @@ module _ (s : Surveyed) (l : ℕ) where
       let p = sym (nth_append_left (start_links net) (others net (tour net)) k 0 hi) ∙ q in
       rw p at (start_closes net (surveyed_fits s) k lo hi)
 
-  pub start_ranked : (k : ℕ) → rank_in (link_order (net_of s)) l ≡ Some k → ltb k (net_of s).bars ≡ nth (start_setting (net_of s)) l false
+  start_ranked : (k : ℕ) → rank_in (link_order (net_of s)) l ≡ Some k → ltb k (net_of s).bars ≡ nth (start_setting (net_of s)) l false
   start_ranked k e = elim (dec_le (net_of s).bars k) [
     | yes h ↦ elim (closed_or_open (nth (start_setting (net_of s)) l false)) [
       | inl c ↦ let (j, q, lt) = closed_rank c in let z = same_some q e in absurd (omega arith)
@@ -47,11 +47,16 @@ module _ (s : Surveyed) (l : ℕ) where
     | no h ↦ lt-ltb k (net_of s).bars (omega arith) ∙ sym (rank_closed k e (omega arith))
   ]
 
-  pub start_unranked : rank_in (link_order (net_of s)) l ≡ None → nth (start_setting (net_of s)) l false ≡ false
+  start_unranked : rank_in (link_order (net_of s)) l ≡ None → nth (start_setting (net_of s)) l false ≡ false
   start_unranked e = elim (closed_or_open (nth (start_setting (net_of s)) l false)) [
     | inl c ↦ let (j, q, _) = closed_rank c in absurd (not_some_none q e)
     | inr o ↦ o
   ]
+
+  pub start_by_rank : (r : Option ℕ) (b : Bool) → r ≡ rank_in (link_order (net_of s)) l
+      → MatchOption r (b ≡ false) (λ k. b ≡ ltb k (net_of s).bars) → b ≡ nth (start_setting (net_of s)) l false
+  start_by_rank None b e h = h ∙ sym (start_unranked (sym e))
+  start_by_rank (Some k) b e h = h ∙ start_ranked k (sym e)
 
 -- the counts at the start: 60 of them, by number, and none more than 1
 pub start_long : (net : Net) → length (start_counts net) ≡ 60

@@ -1,5 +1,5 @@
 -- What a tally means. Assumes nothing.
-use Rattle.std.specs.Prelude.{◌≡◌, ℕ, ◌-◌, ◌^◌, false, Option, MatchOption}
+use Rattle.std.specs.Prelude.{◌≡◌, ℕ, false, Option, MatchOption}
 use Rattle.net.specs.Nets.{nth}
 use Rattle.collectors.specs.Links.{IsNumber}
 use Rattle.tally.specs.declared.counts.LinkCount.{LinkCount}
@@ -13,7 +13,7 @@ counts_of t = counts_in t.table
 
 -- How many more exchanges it takes: 2^62 in all.
 abbrev pub spare_of : Tally → ℕ
-spare_of t = 2 ^ 62 - t.taken
+spare_of t = t.spare
 
 -- The record of link l, where l is a number of a link.
 abbrev pub RecordOf : Counts → ℕ → Option LinkCount → Type 0

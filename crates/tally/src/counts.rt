@@ -1,5 +1,5 @@
 // A table of links and their counts.
-ghost use Rattle.std.specs.Prelude.{◌≡◌, ◌+◌, ◌^◌, ◌≤◌, true, length};
+ghost use Rattle.std.specs.Prelude.{◌≡◌, ◌+◌, ◌-◌, ◌^◌, ◌≤◌, true, length};
 ghost use Rattle.tally.specs.Counts.{counts_to};
 ghost use Rattle.tally.specs.Tables.{counts_in};
 
@@ -14,12 +14,12 @@ pub struct LinkCount {
     pub count: u64,
 }
 
-// A record for each of the link numbers 1 to 60, and how many exchanges were taken.
+// A record for each of the link numbers 1 to 60, and how many more exchanges are taken.
 #[derive(Clone, Copy)]
 pub struct Tally {
     table: [LinkCount; 60],
-    taken: u64,
+    spare: u64,
     ghost long: { length table ≡ 60 },
-    ghost few: { taken ≤ 2 ^ 62 },
-    ghost counted: { counts_to (taken + 1) (counts_in table) ≡ true },
+    ghost few: { spare ≤ 2 ^ 62 },
+    ghost counted: { counts_to (2 ^ 62 - spare + 1) (counts_in table) ≡ true },
 }

@@ -49,5 +49,5 @@ impl Exchange {
 fn is_number(link: u32) -> bool
     ensures { result ≡ (nat_le 1 link && nat_le link 60) }
 {
-    link >= 1 && link <= MOST_NUMBER
+    (1..=MOST_NUMBER).contains(&link)
 }

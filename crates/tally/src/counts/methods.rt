@@ -9,7 +9,11 @@ ghost use Rattle.tally.specs.Tallies.{counts_of, spare_of, RecordOf};
 
 use super::{LinkCount, Tally};
 use net::NetSource;
+use std::array;
 use survey::Surveyed;
+
+// So many exchanges are taken.
+const MOST_TAKEN: u64 = 1 << 62;
 
 impl Tally {
     // The start setting told, and no exchange taken yet.
@@ -19,7 +23,7 @@ impl Tally {
     {
         Tally {
             table: start_table(site),
-            taken: 0,
+            spare: MOST_TAKEN,
         }
     }
 
@@ -27,10 +31,8 @@ impl Tally {
     pub fn record(&self, link: u64) -> Option<LinkCount>
         ensures { RecordOf (counts_of self.now) link result }
     {
-        if link < 1 || link > 60 {
-            return None;
-        }
-        Some(self.table[link as usize - 1])
+        let place = (link as usize).checked_sub(1)?;
+        self.table.get(place).copied()
     }
 }
 
@@ -38,14 +40,7 @@ impl Tally {
 fn start_table(site: &Surveyed) -> [LinkCount; 60]
     ensures { counts_in result ≡ start_counts (net_of site.now) }
 {
-    let mut table = [LinkCount {
-        closed: false,
-        count: 0,
-    }; 60];
-    for place in 0..table.len() {
-        table[place] = start_record(site, place as u64 + 1);
-    }
-    table
+    array::from_fn(|place| start_record(site, place as u64 + 1))
 }
 
 // The record of a link at the start.
@@ -63,8 +58,6 @@ fn start_record(site: &Surveyed, link: u64) -> LinkCount
 fn is_start(site: &Surveyed, link: u64) -> bool
     ensures { result ≡ nth (start_setting (net_of site.now)) link false }
 {
-    match site.rank_of_link(link) {
-        Some(rank) => rank < site.bars() as usize,
-        None => false,
-    }
+    site.rank_of_link(link)
+        .is_some_and(|rank| rank < site.bars() as usize)
 }

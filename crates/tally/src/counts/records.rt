@@ -6,24 +6,18 @@ ghost use Rattle.tally.specs.Tables.{count_of};
 use super::LinkCount;
 
 impl LinkCount {
-    // The record with the link closed or open, the count kept.
-    pub(crate) fn switched(self, closed: bool) -> LinkCount
-        ensures { count_of result ≡ (closed, self.count) }
+    // Closes or opens the link; the count is kept.
+    pub(crate) fn switch(&mut self, closed: bool)
+        ensures { count_of self.new ≡ (closed, self.old.count) }
     {
-        LinkCount {
-            closed,
-            count: self.count,
-        }
+        self.closed = closed;
     }
 
-    // The record with one more for a closed link.
-    pub(crate) fn counted_on(self) -> LinkCount
-        requires { self.count ≤ 2 ^ 62 }
-        ensures { count_of result ≡ counted_once_more (count_of self) }
+    // Counts one more for a closed link.
+    pub(crate) fn count_on(&mut self)
+        requires { self.old.count ≤ 2 ^ 62 }
+        ensures { count_of self.new ≡ counted_once_more (count_of self.old) }
     {
-        LinkCount {
-            closed: self.closed,
-            count: self.count + u64::from(self.closed),
-        }
+        self.count += u64::from(self.closed);
     }
 }

@@ -11,9 +11,6 @@ use super::{LinkCount, Tally};
 use collectors::{Collector, Exchange, Kind};
 use faults::CollectorFault;
 
-// So many exchanges are taken.
-const MOST_TAKEN: u64 = 1 << 62;
-
 impl Collector for Tally {
     ghost Sum = { Counts };
 
@@ -23,20 +20,18 @@ impl Collector for Tally {
 
     ghost rule = { tallied };
 
-    ghost bounded = { λ t. omega arith };
+    ghost bounded = { λ t. t.few };
 
     fn spare(&self) -> u64 {
-        MOST_TAKEN - self.taken
+        self.spare
     }
 
     fn take(&mut self, exchange: Exchange) -> Result<(), CollectorFault> {
-        if self.taken == MOST_TAKEN {
-            return Err(CollectorFault::Full);
-        }
+        let spare = self.spare.checked_sub(1).ok_or(CollectorFault::Full)?;
         self.switch(exchange.link_out(), false);
         self.switch(exchange.link_in(), true);
         count_after(exchange.kind(), &mut self.table);
-        self.taken += 1;
+        self.spare = spare;
         Ok(())
     }
 }
@@ -46,10 +41,9 @@ impl Tally {
     fn switch(&mut self, link: u32, closed: bool)
         requires { IsNumber link }
         ensures counts { counts_of self.new ≡ switched (counts_of self.old) link closed }
-        ensures taken { self.new.taken ≡ self.old.taken }
+        ensures spare { self.new.spare ≡ self.old.spare }
     {
-        let place = link as usize - 1;
-        self.table[place] = self.table[place].switched(closed);
+        self.table[link as usize - 1].switch(closed);
     }
 }
 
@@ -58,9 +52,8 @@ fn count_after(kind: Kind, table: &mut [LinkCount])
     requires { counts_to (2 ^ 62) (counts_in table.old) ≡ true }
     ensures { counts_in table.new ≡ counted_after (is_forward kind) (counts_in table.old) }
 {
-    match kind {
-        Kind::Forward => count_closed(table),
-        Kind::Back => {}
+    if kind == Kind::Forward {
+        count_closed(table);
     }
 }
 
@@ -70,6 +63,6 @@ fn count_closed(table: &mut [LinkCount])
     ensures { counts_in table.new ≡ map counted_once_more (counts_in table.old) }
 {
     for record in table.iter_mut() {
-        *record = record.counted_on();
+        record.count_on();
     }
 }

@@ -1,8 +1,9 @@
-use Rattle.std.proofs.Common.{arith}
-use Rattle.tally.proofs.Records.{record_at}
+use Rattle.std.proofs.Common.{rules}
+use Rattle.tally.proofs.Records.{record_got}
 use Rattle.tally.proofs.counts.Tally.record.Goals as goal
 
 pub returns : goal.returns
 returns c =
     let t = c.args.self.now in
-    ((omega arith, omega arith), record_at t.table c.args.link _ (omega arith) (omega (arith, t.long)))
+    rw c.copied.ensures
+    (record_got t.table c.args.link c.in_ok-place.place c.get.result t.long c.in_ok-place.ensures.0 c.in_ok-place.ensures.1 (search rules))
