@@ -17,7 +17,8 @@ pub const INFEED: u32 = 1;
 pub fn check<S: NetSource>(source: &S) -> Result<(), NetFault>
     ensures { MatchResult result (λ _. WithinLimits (S.meaning source.now)) (λ f. FirstNo (S.meaning source.now) f) }
 {
-    if !(1..=MOST_BARS).contains(&source.bars()) {
+    let bars = source.bars();
+    if !(1..=MOST_BARS).contains(&bars) {
         return Err(NetFault::BarCount);
     }
     let links = source.links();
@@ -25,19 +26,20 @@ pub fn check<S: NetSource>(source: &S) -> Result<(), NetFault>
         return Err(NetFault::LinkCount);
     }
     for link in 1..=links {
-        check_link(source, link)?;
+        check_link(source, bars, link)?;
     }
     Ok(())
 }
 
-// The two questions that are asked of a link.
-fn check_link<S: NetSource>(source: &S, link: u64) -> Result<(), NetFault>
+// The two questions that are asked of a link of a net of so many bars, which the source is asked for once.
+fn check_link<S: NetSource>(source: &S, most: u32, link: u64) -> Result<(), NetFault>
+    requires { most ≡ (S.meaning source.now).bars }
     ensures { MatchResult result (λ _. EndsAreBars (S.meaning source.now) link × EndsDiffer (S.meaning source.now) link) (λ f. FirstLinkNo (S.meaning source.now) link f) }
 {
     let Some((a, b)) = source.ends(link) else {
         return Ok(());
     };
-    let bars = 1..=source.bars();
+    let bars = 1..=most;
     if !bars.contains(&a) || !bars.contains(&b) {
         return Err(NetFault::EndOutside(link));
     }

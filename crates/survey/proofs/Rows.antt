@@ -1,15 +1,16 @@
--- The numbers of a ranking, and their ranks.
-use Rattle.std.proofs.Common.{◌≡◌, ℕ, zero, suc, ◌+◌, ◌<◌, ◌≤◌, true, not, ◌&&◌, leb, List, [], ◌∷◌, ◌++◌, map, length, take, set, is_some, Some, None, Option, refl, ap, ◌∙◌, arith, option_map, slice_get, position, eqb, cond, Bool, false}
-use Rattle.std.specs.List.{AllByRecursion, position_from}
-use Rattle.std.proofs.lemmas.Iterator.Adapters.{position_from-zero}
-use Rattle.std.proofs.lemmas.List.{length-take-le, length-map, map-append, take_more_set}
+-- The tables of a ranking: its numbers, and their ranks.
+use Rattle.std.proofs.Common.{◌≡◌, ℕ, zero, suc, ◌+◌, ◌-◌, ◌<◌, ◌≤◌, true, not, ◌&&◌, leb, List, [], ◌∷◌, ◌++◌, map, length, get_or, take, set, replicate, is_some, Some, None, Option, sym, refl, ap, ◌∙◌, inl, inr, arith, slice_get}
+use native.Mathlib.Decide.{ℕ_discrete}
+use Rattle.std.specs.List.{AllByRecursion}
+use Rattle.std.proofs.lemmas.List.{length-set, length-take-le, length-map, map-append, get_or-set_same, get_or-set_other, ext_get_or, length-replicate, get_or-replicate, take_more_set}
+use Rattle.std.proofs.lemmas.List.FromFn.{length-map-range_with_len, get_or-map-range_with_len}
 use Rattle.std.proofs.lemmas.Bool.{and_parts, and_from, leb-true, le-leb}
 use Rattle.net.specs.Nets.{nth}
 use Rattle.net.proofs.Numbered.{nth_append_left}
 use Rattle.survey.specs.declared.ranking.Ranking.{Ranking}
 use Rattle.survey.specs.Listed.{listed}
-use Rattle.survey.specs.Ranks.{rank_in, number_at_rank, in_range, distinct}
-use Rattle.survey.proofs.Ranked.{NoRepeat, norepeat_push}
+use Rattle.survey.specs.Ranks.{rank_in, number_at_rank, rank_table, in_range, distinct}
+use Rattle.survey.proofs.Ranked.{some_or_none, rank_place, rank_push, rank_push_other, NoRepeat, norepeat_push}
 use Rattle.survey.proofs.Marked.{Within, missing_fits}
 
 -- the two tests say what they test
@@ -41,26 +42,64 @@ once_distinct [] h = refl
 once_distinct (x ∷ xs) h =
     and_from (not (is_some (rank_in xs x))) (distinct xs) (ap (λ o. not (is_some o)) h.0) (once_distinct xs h.1)
 
--- the rank of a number is one more than how many stand before it
-ranks_moved : (i : ℕ) (o : Option ℕ) → option_map (λ k. i + 1 + k) o ≡ option_map (λ k. i + k) (option_map suc o)
-ranks_moved i None = refl
-ranks_moved i (Some k) = let z : i + 1 + k ≡ i + suc k = omega arith in ap Some z
-
-ranks_from : (xs : List ℕ) (x i : ℕ) → option_map suc (position_from (eqb x) i xs) ≡ option_map (λ k. i + k) (rank_in xs x)
-ranks_from [] x i = refl
-ranks_from (y ∷ ys) x i = by (eqb x y) (ranks_from ys x (i + 1) ∙ ranks_moved i (rank_in ys x))
+-- a number out of range has no rank
+pub outside_rank : (n : ℕ) (xs : List ℕ) (x : ℕ) → in_range n xs ≡ true → ¬ Within n x → rank_in xs x ≡ None
+outside_rank n xs x h out = elim (some_or_none (rank_in xs x)) [
+  | inl (k, e) ↦ absurd (out (within xs k (range_within n xs h) (rank_place xs x k e)))
+  | inr e ↦ e
+]
   where
-    by : (b : Bool) → option_map suc (position_from (eqb x) (i + 1) ys) ≡ option_map (λ k. i + k) (option_map suc (rank_in ys x))
-        → option_map suc (cond b (Some i) (position_from (eqb x) (i + 1) ys)) ≡ option_map (λ k. i + k) (cond b (Some 1) (option_map suc (rank_in ys x)))
-    by true e = let z : suc i ≡ i + 1 = omega arith in ap Some z
-    by false e = e
+    within : (ys : List ℕ) (k : ℕ) → AllByRecursion (Within n) ys → (1 ≤ k) × (k ≤ length ys) × (nth ys k 0 ≡ x) → Within n x
+    within [] k w p = absurd (omega arith)
+    within (y ∷ ys) zero w p = absurd (omega arith)
+    within (y ∷ ys) (suc zero) w (lo, hi, e) = rw e at w.0
+    within (y ∷ ys) (suc (suc k)) w (lo, hi, e) = within ys (suc k) w.1 (omega arith, omega arith, e)
 
-pub rank_placed : (xs : List ℕ) (x : ℕ) → option_map suc (position (eqb x) xs) ≡ rank_in xs x
-rank_placed xs x = ap (option_map suc) (position_from-zero (eqb x) xs) ∙ ranks_from xs x 0 ∙ same (rank_in xs x)
+-- the table
+pub length_table : (n : ℕ) (xs : List ℕ) → length (rank_table n xs) ≡ n
+length_table n xs = length-map-range_with_len (rank_in xs) 1 n
+
+pub table_none : (n : ℕ) → replicate n None ≡ rank_table n []
+table_none n = ext_get_or None (replicate n None) (rank_table n []) (length-replicate n None ∙ sym (length_table n []))
+    (λ i h.
+    let lt : i < n = omega (arith, length-replicate {A = Option ℕ} n None) in
+    get_or-replicate n i None None lt ∙ sym (get_or-map-range_with_len (rank_in []) 1 n i (1 + i) None lt refl))
+
+pub table_read : (n : ℕ) (xs : List ℕ) (x : ℕ) → Within n x → get_or (rank_table n xs) (x - 1) None ≡ rank_in xs x
+table_read n xs x w = get_or-map-range_with_len (rank_in xs) 1 n (x - 1) x None (omega arith) (omega arith)
+
+pub table_push : (n : ℕ) (xs : List ℕ) (x k : ℕ) → Within n x → rank_in xs x ≡ None → length xs ≡ k
+    → set (rank_table n xs) (x - 1) (Some (k + 1)) ≡ rank_table n (xs ++ x ∷ [])
+table_push n xs x k w new e =
+    ext_get_or None (set (rank_table n xs) (x - 1) (Some (k + 1))) (rank_table n (xs ++ x ∷ []))
+    (length-set (rank_table n xs) (x - 1) (Some (k + 1)) ∙ length_table n xs ∙ sym (length_table n (xs ++ x ∷ [])))
+    (λ i h. by i (rw (length-set (rank_table n xs) (x - 1) (Some (k + 1)), length_table n xs) at h))
   where
-    same : (o : Option ℕ) → option_map (λ k. 0 + k) o ≡ o
-    same None = refl
-    same (Some k) = let z : 0 + k ≡ k = omega arith in ap Some z
+    by : (i : ℕ) → i < n → get_or (set (rank_table n xs) (x - 1) (Some (k + 1))) i None ≡ get_or (rank_table n (xs ++ x ∷ [])) i None
+    by i lt = elim (ℕ_discrete i (x - 1)) [
+      | yes p ↦
+          let z : suc (length xs) ≡ k + 1 = omega arith in
+          rw p (get_or-set_same (rank_table n xs) (x - 1) (Some (k + 1)) None (rw (length_table n xs) (omega arith))
+          ∙ sym (table_read n (xs ++ x ∷ []) x w ∙ rank_push xs x new ∙ ap Some z))
+      | no ne ↦
+          get_or-set_other (rank_table n xs) (x - 1) i (Some (k + 1)) None ne
+          ∙ get_or-map-range_with_len (rank_in xs) 1 n i (suc i) None lt (omega arith)
+          ∙ sym (rank_push_other xs (suc i) x (omega arith))
+          ∙ sym (get_or-map-range_with_len (rank_in (xs ++ x ∷ [])) 1 n i (suc i) None lt (omega arith))
+    ]
+
+-- what stands in the table at a place: the rank of the number one above; past its end stands no rank
+module _ (n : ℕ) (xs : List ℕ) (ranks : List (Option ℕ)) (k x : ℕ) (tied : ranks ≡ rank_table n xs) (next : k + 1 ≡ x) where
+  long_table : length ranks ≡ n
+  long_table = ap length tied ∙ length_table n xs
+
+  pub rank_past : in_range n xs ≡ true → length ranks ≤ k → rank_in xs x ≡ None
+  rank_past h past = outside_rank n xs x h (λ w. omega (arith, long_table))
+
+  pub rank_read : k < length ranks → get_or ranks k None ≡ rank_in xs x
+  rank_read lt =
+      let z : k ≡ x - 1 = omega arith in
+      ap (λ r. get_or r k None) tied ∙ ap (λ j. get_or (rank_table n xs) j None) z ∙ table_read n xs x (omega arith, omega (arith, long_table))
 
 -- the number of a rank
 pub number_placed : (xs : List ℕ) (k : ℕ) → slice_get xs k ≡ number_at_rank xs (suc k)
@@ -84,6 +123,9 @@ module _ {N : ℕ} (r : Ranking N) (x : ℕ) (w : Within N x) (new : rank_in (li
 
   pub add_once : distinct (take (r.count + 1) (set r.items r.count x)) ≡ true
   add_once = rw add_last (once_distinct (listed r ++ x ∷ []) (norepeat_push (listed r) x (distinct_once (listed r) r.once) new))
+
+  pub add_tied : set r.ranks (x - 1) (Some (r.count + 1)) ≡ rank_table N (take (r.count + 1) (set r.items r.count x))
+  add_tied = rw (add_last, r.tied) (table_push N (listed r) x r.count w new (length_listed r))
 
 pub within_range : (m n : ℕ) (xs : List ℕ) → m ≤ n → AllByRecursion (Within m) xs → in_range n xs ≡ true
 within_range m n [] le h = refl

@@ -1,5 +1,6 @@
 -- Ranks: the place of a number in a list, counted from 1. Assumes nothing.
 use Rattle.std.specs.Prelude.{◌≡◌, ℕ, suc, ◌≤◌, Bool, true, cond, not, ◌&&◌, List, [], ◌∷◌, map, length, is_some, Some, None, Option, ◌==◌, nat_le}
+use Rattle.std.specs.List.{range_with_len}
 use Rattle.std.specs.Option.{option_map}
 use Rattle.net.specs.Nets.{nth}
 
@@ -17,6 +18,10 @@ pub record Ranks (P : ℕ → Type 0) (xs : List ℕ) : Type 0 where
   pub each_ranked : (x : ℕ) → P x → (k : ℕ) × (rank_in xs x ≡ Some k)
   pub no_other : (k : ℕ) → 1 ≤ k → k ≤ length xs → P (nth xs k 0)
   pub one_rank : (k : ℕ) → 1 ≤ k → k ≤ length xs → rank_in xs (nth xs k 0) ≡ Some k
+
+-- The table of ranks of the numbers 1 to n.
+abbrev pub rank_table : ℕ → List ℕ → List (Option ℕ)
+rank_table n xs = map (rank_in xs) (range_with_len 1 n)
 
 -- The test that every number of a list is one of 1 to n.
 abbrev pub in_range : ℕ → List ℕ → Bool

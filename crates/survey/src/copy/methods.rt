@@ -1,5 +1,5 @@
 // Copying a net, and what a copy answers.
-ghost use Rattle.std.specs.Prelude.{◌≡◌, length, Err, MatchResult};
+ghost use Rattle.std.specs.Prelude.{◌≡◌, ◌+◌, length, Err, MatchResult};
 ghost use Rattle.faults.specs.declared.Fault.TheVariants.{Net};
 ghost use Rattle.net.specs.Nets.{ends_of};
 ghost use Rattle.survey.specs.Tables.{copied};
@@ -19,7 +19,7 @@ impl NetCopy {
         net::check(source)?;
         let bars = source.bars();
         let links = source.links() as u32;
-        let ends = array::from_fn(|at| source.ends(at as u64 + 1));
+        let ends = array::from_fn(|at| ends_at(source, links, at));
         Ok(NetCopy { bars, links, ends })
     }
 
@@ -41,8 +41,10 @@ impl NetCopy {
     pub(crate) fn ends(&self, link: u64) -> Option<(u32, u32)>
         ensures { result ≡ ends_of (copied self.now) link }
     {
-        let place = link.checked_sub(1)?;
-        *self.ends[..self.links as usize].get(place as usize)?
+        if !(1..=u64::from(self.links)).contains(&link) {
+            return None;
+        }
+        self.ends[link as usize - 1]
     }
 
     // The bar at the other end of a link from this bar; none where the link has no end here.
@@ -58,4 +60,14 @@ impl NetCopy {
             None
         }
     }
+}
+
+// The two bars of the link at this place of so many, counted from 0; past them none, and the source is not asked.
+fn ends_at<S: NetSource>(source: &S, links: u32, place: usize) -> Option<(u32, u32)>
+    ensures { links ≡ length (S.meaning source.now).links → result ≡ ends_of (S.meaning source.now) (place + 1) }
+{
+    if place >= links as usize {
+        return None;
+    }
+    source.ends(place as u64 + 1)
 }

@@ -1,5 +1,5 @@
 // What a ranking answers.
-ghost use Rattle.std.specs.Prelude.{◌≡◌, ◌≤◌, [], ◌∷◌, ◌++◌, None, ◌==◌, position, slice_get};
+ghost use Rattle.std.specs.Prelude.{◌≡◌, ◌≤◌, [], ◌∷◌, ◌++◌, None, slice_get};
 ghost use Rattle.survey.specs.Ranks.{rank_in, number_at_rank};
 ghost use Rattle.survey.specs.Listed.{listed};
 
@@ -8,10 +8,12 @@ use super::Ranking;
 impl<const N: usize> Ranking<N> {
     // No number yet.
     pub(crate) fn new() -> Ranking<N>
+        requires { N ≤ 255 }
         ensures { listed result ≡ [] }
     {
         Ranking {
             items: [0; N],
+            ranks: [None; N],
             count: 0,
         }
     }
@@ -27,20 +29,16 @@ impl<const N: usize> Ranking<N> {
         let at = self.count;
         self.items[at] = x;
         self.count = at + 1;
+        self.ranks[x as usize - 1] = Some(at as u8 + 1);
     }
 
     // The rank of a number, if it was added.
     pub(crate) fn rank_of(&self, x: u64) -> Option<usize>
         ensures { result ≡ rank_in (listed self.now) x }
     {
-        self.place_of(x).map(|place| place + 1)
-    }
-
-    // How many numbers stand before this one, if it was added.
-    fn place_of(&self, x: u64) -> Option<usize>
-        ensures { result ≡ position (λ y. x == y) (listed self.now) }
-    {
-        self.as_slice().iter().position(|y| x == u64::from(*y))
+        let place = x.checked_sub(1)?;
+        let rank = *self.ranks.get(place as usize)?;
+        rank.map(usize::from)
     }
 
     // The number of a rank, if there is one.

@@ -11,21 +11,21 @@ use Rattle.survey.proofs.copy.NetCopy.copy.Goals.{After-from_fn-ends}
 made : (g : Over) (c : After-from_fn-ends g) (k : ℕ) → k < 60 → get_or c.from_fn-ends.result k None ≡ ends_of (g.S.NetSource.meaning c.args.source.now) (suc k)
 made g c k lt =
     let net = g.S.NetSource.meaning c.args.source.now in
-    table_made c.from_fn-ends.ensures.items (λ i. ends_of net (i + 1)) (λ q i y w. search rules) None k lt ∙ ap (ends_of net) (add-one k)
+    table_made c.from_fn-ends.ensures.items (λ i. ends_of net (i + 1)) (λ q i y w. search (rules, c.links.ensures)) None k lt ∙ ap (ends_of net) (add-one k)
 
 pub invariant_of-result : goal.invariant_of-result
 invariant_of-result g c = record {
   long = c.from_fn-ends.ensures.items.long;
   few = omega (arith, c.in_ok-check.ensures.few_links);
-  within = table_within c.from_fn-ends.result c.links-links.result
+  within = table_within c.from_fn-ends.result c.links.result
       (omega (arith, c.from_fn-ends.ensures.items.long, c.in_ok-check.ensures.few_links))
-      (g.S.NetSource.meaning c.args.source.now) c.bars-bars.result c.bars-bars.ensures c.links-links.ensures
+      (g.S.NetSource.meaning c.args.source.now) c.bars-bars.result c.bars-bars.ensures c.links.ensures
       (λ k h. made g c k (omega (arith, c.in_ok-check.ensures.few_links))) c.in_ok-check.ensures;
 }
 
 pub returns : goal.returns
-returns g c = table_filled c.from_fn-ends.result c.links-links.result (omega (arith, c.from_fn-ends.ensures.items.long, c.in_ok-check.ensures.few_links))
-    (g.S.NetSource.meaning c.args.source.now) c.bars-bars.result c.bars-bars.ensures c.links-links.ensures
+returns g c = table_filled c.from_fn-ends.result c.links.result (omega (arith, c.from_fn-ends.ensures.items.long, c.in_ok-check.ensures.few_links))
+    (g.S.NetSource.meaning c.args.source.now) c.bars-bars.result c.bars-bars.ensures c.links.ensures
     (λ k h. made g c.before k (omega (arith, c.in_ok-check.ensures.few_links)))
 
 pub returns-in_err-check : goal.returns-in_err-check
