@@ -11,6 +11,7 @@ use Rattle.survey.specs.Ranks.{number_at_rank}
 use Rattle.survey.specs.Surveys.{start_links, link_order}
 use Rattle.survey.specs.declared.surveyed.Surveyed.{Surveyed}
 use Rattle.survey.specs.Answers.{net_of}
+use Rattle.survey.proofs.Ranked.{not_some_none}
 use Rattle.survey.proofs.Others.{links_ranked}
 use Rattle.survey.proofs.Whole.{surveyed_fits, surveyed_reached, surveyed_starts}
 use Rattle.trees.specs.Rules.{start_link_of, IsStart}
@@ -32,11 +33,20 @@ start_found s s' k o same e = ap (λ o. unwrap_or o 0) e ∙ at_rank_nth (start_
 pub link_found : (s s' : Surveyed) (r : ℕ) (o : Option ℕ) → s' ≡ s → o ≡ number_at_rank (link_order (net_of s')) r → unwrap_or o 0 ≡ link_at (net_of s) r
 link_found s s' r o same e = ap (λ o. unwrap_or o 0) e ∙ at_rank_nth (link_order (net_of s')) r ∙ ap (λ t. link_at (net_of t) r) same
 
+-- a rank of the list has a number
+number_at_rank_nth : (xs : List ℕ) (k : ℕ) → 1 ≤ k → k ≤ length xs → number_at_rank xs k ≡ Some (nth xs k 0)
+number_at_rank_nth xs zero lo hi = absurd (omega arith)
+number_at_rank_nth [] (suc k) lo hi = absurd (omega arith)
+number_at_rank_nth (x ∷ xs) (suc zero) lo hi = refl
+number_at_rank_nth (x ∷ xs) (suc (suc k)) lo hi = number_at_rank_nth xs (suc k) (omega arith) (omega arith)
+
 -- each rank of a start link has one
+pub start_at_rank : (s : Surveyed) (k : ℕ) → IsStart (net_of s) k → number_at_rank (start_links (net_of s)) k ≡ Some (start_link_of (net_of s) k)
+start_at_rank s k is = number_at_rank_nth (start_links (net_of s)) k is.0 (omega (arith, surveyed_starts s))
+
 pub start_there : (s s' : Surveyed) (k : ℕ) (o : Option ℕ) → s' ≡ s → o ≡ number_at_rank (start_links (net_of s')) k → IsStart (net_of s) k → o ≢ None
 start_there s s' k o same e is z =
-    let (_, _, _, _, up) = start_up (net_of s) (surveyed_fits s) (surveyed_reached s) k is in
-    omega (arith, ap (λ o. unwrap_or o 0) z, start_found s s' k o same e, joins_range (net_of s) up)
+    not_some_none (start_at_rank s k is) (ap (λ t. number_at_rank (start_links (net_of t)) k) (sym same) ∙ sym e ∙ z)
 
 -- a rank that a number has is one of the list
 ranked_there : (xs : List ℕ) (k x : ℕ) → Some x ≡ number_at_rank xs k → (1 ≤ k) × (k ≤ length xs)

@@ -28,7 +28,7 @@ impl Search {
             leaving: self.ceiling,
             entering: rank,
         };
-        let Some((leaving, link)) = self.links_of(moved) else {
+        let Some((leaving, link)) = self.both_links_of(moved) else {
             return false;
         };
         self.is_free(leaving, link) && self.is_in_cuts(link)

@@ -2,6 +2,8 @@
 ghost use Rattle.std.specs.Prelude.{◌≡◌, false};
 ghost use Rattle.std.specs.Option.{option_map};
 ghost use Rattle.net.specs.Nets.{nth};
+ghost use Rattle.survey.specs.Ranks.{number_at_rank};
+ghost use Rattle.survey.specs.Surveys.{start_links, link_order};
 ghost use Rattle.flood.specs.Rows.{Presents};
 ghost use Rattle.search.specs.Descents.{LinksOf, last_move};
 ghost use Rattle.search.specs.Frames.{ranks_of};
@@ -40,8 +42,20 @@ impl Search {
         self.switches.present(row)
     }
 
+    // The leaving link and the entering link of a move, each none where its rank has no link.
+    pub fn links_of(&self, moved: Move) -> (Option<u32>, Option<u32>)
+        ensures leaving { result.0 ≡ number_at_rank (start_links (net_in self.now)) moved.leaving }
+        ensures entering { result.1 ≡ number_at_rank (link_order (net_in self.now)) moved.entering }
+    {
+        (
+            self.site().start_link(moved.leaving),
+            self.site().link_at_rank(moved.entering),
+        )
+    }
+
     // The leaving link and the entering link of a move; none if one of its ranks has no link.
-    pub fn links_of(&self, moved: Move) -> Option<(u32, u32)>
+    // Each is looked up here: over `links_of` and `zip` the search takes more than twice the time on a net with many links a bar.
+    pub fn both_links_of(&self, moved: Move) -> Option<(u32, u32)>
         ensures { LinksOf (net_in self.now) moved.leaving moved.entering result }
     {
         let leaving = self.site().start_link(moved.leaving)?;

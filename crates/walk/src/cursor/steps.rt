@@ -105,7 +105,7 @@ impl Cursor {
         requires { MayMove (net_at self.now) moved }
         ensures { option_map said_by result ≡ Some (exchange_of kind (net_at self.now) moved) }
     {
-        let (leaving, entering) = self.search.links_of(moved)?;
+        let (leaving, entering) = self.search.both_links_of(moved)?;
         match kind {
             Kind::Forward => Exchange::new(kind, leaving, entering),
             Kind::Back => Exchange::new(kind, entering, leaving),

@@ -2,7 +2,7 @@ use Rattle.std.proofs.Common.{None, sym, inr, subst}
 use Rattle.search.specs.Descents.{LinksOf}
 use Rattle.search.specs.States.{net_in}
 use Rattle.search.proofs.Places.{link_found, links_there}
-use Rattle.search.proofs.state.Search.links_of.Goals as goal
+use Rattle.search.proofs.state.Search.both_links_of.Goals as goal
 
 pub returns-in_err-entering : goal.returns-in_err-entering
 returns-in_err-entering c =
