@@ -2,7 +2,7 @@
 // last lines are their own: one function for them would take the rest as a closure, and ask of its caller that it may be called.
 #![tactic(auto)]
 
-ghost use Rattle.std.specs.Prelude.{IfOk, IfSome};
+ghost use Rattle.std.specs.Prelude.{◌≡◌, Some, None, IfOk, IfSome, MatchResult};
 ghost use Rattle.net.specs.Settings.{Setting, Radial};
 ghost use Rattle.survey.specs.Answers.{net_of};
 
@@ -24,7 +24,17 @@ pub fn read_site(rt: &HostRuntime) -> anyhow::Result<Option<Surveyed>>
         .take(MOST_BYTES as u64 + 1)
         .read_to_end(&mut bytes)?;
     let row = Vec::with_capacity(rt.alloc(), MOST_NUMBERS)?;
-    match intake(bytes.as_slice(), row) {
+    site_or_refusal(rt, intake(bytes.as_slice(), row))
+}
+
+// The site of an answer; of a refused one none, and its refusal is printed.
+fn site_or_refusal(
+    rt: &HostRuntime,
+    answer: Result<Surveyed, Fault>,
+) -> anyhow::Result<Option<Surveyed>>
+    ensures { IfOk result (λ found. MatchResult answer (λ site. found ≡ Some site) (λ _. found ≡ None)) }
+{
+    match answer {
         Ok(site) => Ok(Some(site)),
         Err(fault) => {
             refuse(rt, fault)?;
