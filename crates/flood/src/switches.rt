@@ -55,6 +55,13 @@ impl Switches {
         &self.site
     }
 
+    // The marks of the closed links.
+    pub fn closed(&self) -> Marks<60>
+        ensures { result ≡ self.now.closed }
+    {
+        self.closed
+    }
+
     // Whether a link is closed; no for what is no link.
     pub fn has_closed(&self, link: u64) -> bool
         ensures { result ≡ nth (switched self.now) link false }

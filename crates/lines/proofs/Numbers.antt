@@ -1,17 +1,16 @@
 -- The closed links of a setting, written from the highest number down.
-use Rattle.std.proofs.Common.{◌≡◌, ℕ, suc, ◌+◌, ◌-◌, ◌*◌, ◌<◌, ◌≤◌, true, false, cond, List, ◌∷◌, ◌++◌, length, drop, filter, sym, ap, ◌∙◌, append_assoc, arith}
+use Rattle.std.proofs.Common.{◌≡◌, ℕ, suc, ◌+◌, ◌-◌, ◌*◌, ◌≤◌, true, false, cond, List, ◌∷◌, ◌++◌, length, drop, filter, sym, ap, ◌∙◌, append_assoc, arith}
 use Rattle.std.specs.List.{range_with_len, flat_map}
+use Rattle.std.proofs.lemmas.List.{length-take}
 use Rattle.net.specs.Nets.{nth}
 use Rattle.net.specs.Settings.{Setting}
-use Rattle.survey.proofs.Whole.{surveyed_fits}
-use Rattle.flood.specs.declared.switches.Switches.{Switches}
-use Rattle.flood.specs.Marked.{switched}
-use Rattle.flood.proofs.Lengths.{switched_length}
-use Rattle.lines.specs.Texts.{closed_numbers, spaced}
+use Rattle.lines.specs.declared.shown.Shown.{Shown}
+use Rattle.lines.specs.Texts.{spaced}
+use Rattle.lines.specs.Shown.{setting_shown}
 use Rattle.lines.proofs.Decimals.{link_short}
 
-pub few_links : (s : Switches) → length (switched s) ≤ 60
-few_links s = omega (arith, switched_length s, (surveyed_fits s.site).few_links)
+pub few_links : (s : Shown) → length (setting_shown s) ≤ 60
+few_links s = omega (arith, length-take s.links s.closed.marked, s.few)
 
 -- the closed links of the first n with numbers from k on
 abbrev numbers_from : Setting → ℕ → ℕ → List ℕ

@@ -2,14 +2,14 @@
 use Rattle.std.specs.Prelude.{◌≡◌, ℕ, ◌+◌, Result, MatchResult}
 use Rattle.faults.specs.declared.CollectorFault.{CollectorFault}
 use Rattle.faults.specs.declared.CollectorFault.TheVariants.{Full}
-use Rattle.flood.specs.Marked.{switched}
 use Rattle.sheets.specs.Sheets.{room_on, bytes_on}
 use Rattle.lines.specs.declared.text.Lines.{Lines}
+use Rattle.lines.specs.Shown.{setting_shown}
 use Rattle.lines.specs.Reports.{Report}
 
 -- What it reports.
 abbrev pub report_of : Lines → Report
-report_of l = record { settings = l.settings; setting = switched l.switches; text = bytes_on l.sheet; room = room_on l.sheet }
+report_of l = record { settings = l.settings; setting = setting_shown l.shown; text = bytes_on l.sheet; room = room_on l.sheet }
 
 -- How many more exchanges it takes.
 abbrev pub spare_of : Lines → ℕ

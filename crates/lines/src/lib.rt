@@ -2,6 +2,7 @@
 #![tactic(auto)]
 
 mod print;
+mod shown;
 mod text;
 
 pub use text::Lines;

@@ -2,12 +2,11 @@
 // kit's `write_digits`.
 ghost use Rattle.std.specs.Prelude.{◌≡◌, ◌+◌, ◌*◌, ◌≤◌, [], ◌∷◌, ◌++◌, length, drop, codes};
 ghost use Rattle.std.specs.List.{flat_map};
-ghost use Rattle.flood.specs.Marked.{switched};
+ghost use Rattle.lines.specs.Shown.{setting_shown};
 ghost use Rattle.lines.specs.Texts.{closed_numbers, spaced, line_of, total_line};
 
-use flood::Switches;
+use crate::shown::Shown;
 use itoa::write_digits;
-use net::NetSource;
 
 // A line has at most so many bytes: 20 digits, a space and two digits for each of 60 links, and a line feed.
 pub(crate) const MOST_LINE: usize = 201;
@@ -16,12 +15,12 @@ pub(crate) const MOST_LINE: usize = 201;
 pub(crate) const MOST_TOTAL: usize = 27;
 
 // Writes the line of a setting so that it ends where these bytes do, and returns where it starts.
-pub(crate) fn write_line(number: u64, switches: &Switches, line: &mut [u8; MOST_LINE]) -> usize
+pub(crate) fn write_line(number: u64, shown: &Shown, line: &mut [u8; MOST_LINE]) -> usize
     ensures within { result ≤ 201 }
-    ensures written { drop result line.new ≡ line_of number (switched switches.now) }
+    ensures written { drop result line.new ≡ line_of number (setting_shown shown.now) }
 {
     line[MOST_LINE - 1] = b'\n';
-    let start = write_links(switches, line, MOST_LINE - 1);
+    let start = write_links(shown, line, MOST_LINE - 1);
     write_digits(number, line, start)
 }
 
@@ -36,14 +35,14 @@ pub(crate) fn write_total(settings: u64, line: &mut [u8; MOST_TOTAL]) -> usize
 }
 
 // Writes the closed links, each behind a space, so that they end here, and returns where they start.
-fn write_links(switches: &Switches, line: &mut [u8], end: usize) -> usize
-    requires { (3 * length (switched switches.now) ≤ end) × (end ≤ length line.old) }
-    ensures room { (result ≤ end) × (end ≤ result + 3 * length (switched switches.now)) }
-    ensures written { drop result line.new ≡ flat_map spaced (closed_numbers (switched switches.now)) ++ drop end line.old }
+fn write_links(shown: &Shown, line: &mut [u8], end: usize) -> usize
+    requires { (3 * length (setting_shown shown.now) ≤ end) × (end ≤ length line.old) }
+    ensures room { (result ≤ end) × (end ≤ result + 3 * length (setting_shown shown.now)) }
+    ensures written { drop result line.new ≡ flat_map spaced (closed_numbers (setting_shown shown.now)) ++ drop end line.old }
 {
     let mut start = end;
-    for link in (1..=switches.site().links()).rev() {
-        if switches.has_closed(link) {
+    for link in (1..=shown.links()).rev() {
+        if shown.has_closed(link) {
             start = write_spaced(link, line, start);
         }
     }

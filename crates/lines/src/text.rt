@@ -2,7 +2,7 @@
 ghost use Rattle.std.specs.Prelude.{◌+◌, ◌*◌, ◌^◌, ◌<◌, ◌≤◌};
 ghost use Rattle.sheets.specs.Sheets.{left_on};
 
-use flood::Switches;
+use crate::shown::Shown;
 use sheets::Sheet;
 
 mod methods;
@@ -13,7 +13,7 @@ mod takes;
 #[derive(Drop)]
 pub struct Lines<'a> {
     sheet: Sheet<'a>,
-    switches: Switches,
+    shown: Shown,
     settings: u64,
     left: u64,
     ghost fits: { 201 * left ≤ left_on sheet },

@@ -9,8 +9,8 @@ ghost use Rattle.lines.specs.Meanings.{report_of, spare_of, Writes};
 
 use super::Lines;
 use crate::print::{MOST_LINE, MOST_TOTAL, write_line, write_total};
+use crate::shown::Shown;
 use faults::CollectorFault;
-use flood::Switches;
 use sheets::Sheet;
 use survey::Surveyed;
 
@@ -28,7 +28,7 @@ impl<'a> Lines<'a> {
         let left = full_spare(sheet.room(), 1);
         Lines {
             sheet,
-            switches: Switches::at_start(site),
+            shown: Shown::at_start(site),
             settings: 1,
             left,
         }
@@ -83,7 +83,7 @@ impl<'a> Lines<'a> {
         ensures spare { spare_of self.new ≡ spare_of self.old }
     {
         let mut line = [0; MOST_LINE];
-        let start = write_line(self.settings, &self.switches, &mut line);
+        let start = write_line(self.settings, &self.shown, &mut line);
         self.sheet.put(&line[start..])
     }
 }

@@ -24,8 +24,8 @@ impl Collector for Lines<'_> {
 
     fn take(&mut self, exchange: Exchange) -> Result<(), CollectorFault> {
         self.left = self.left.checked_sub(1).ok_or(CollectorFault::Full)?;
-        self.switches.put(u64::from(exchange.link_out()), false);
-        self.switches.put(u64::from(exchange.link_in()), true);
+        self.shown.put(u64::from(exchange.link_out()), false);
+        self.shown.put(u64::from(exchange.link_in()), true);
         // A match: with an `if` on the kind the check finds neither return.
         match exchange.kind() {
             Kind::Forward => {

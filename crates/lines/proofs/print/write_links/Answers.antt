@@ -1,7 +1,5 @@
-use Rattle.std.proofs.Common.{◌≡◌, ◌+◌, ◌-◌, ◌≤◌, length, sym, ap, ◌∙◌, arith}
-use Rattle.survey.specs.Answers.{net_of}
-use Rattle.flood.specs.Marked.{switched}
-use Rattle.flood.proofs.Lengths.{switched_length}
+use Rattle.std.proofs.Common.{◌≡◌, ◌+◌, ◌-◌, ◌≤◌, length, sym, ◌∙◌, arith}
+use Rattle.lines.specs.Shown.{setting_shown}
 use Rattle.lines.proofs.Decimals.{link_short}
 use Rattle.lines.proofs.Numbers.{few_links, pass_closed, pass_open}
 use Rattle.lines.proofs.print.write_links.Goals as goal
@@ -10,8 +8,8 @@ use Rattle.lines.proofs.print.write_links.Goals.{then-has_closed, else-has_close
 pub write_spaced-start-requires : goal.write_spaced-start-requires
 write_spaced-start-requires c =
     let at = c.loop-link in
-    let s = c.args.switches.now in
-    let here : at.link ≤ length (switched s) = omega (arith, at.auto.link, c.links-link.ensures, ap (λ s. length (net_of s).links) c.site.ensures, switched_length s) in (
+    let s = c.args.shown.now in
+    let here : at.link ≤ length (setting_shown s) = omega (arith, at.auto.link, c.links-link.ensures) in (
       omega (arith, link_short at.link (omega (arith, here, few_links s)), at.invariant.short, c.loop-link-test.true, here, c.requires),
       omega (arith, at.invariant.below, at.auto.line, c.requires),
     )
@@ -19,11 +17,11 @@ write_spaced-start-requires c =
 pub loop-link-preserved : goal.loop-link-preserved
 loop-link-preserved c =
     let at = c.loop-link in
-    let s = c.args.switches.now in
-    let T = switched s in
+    let s = c.args.shown.now in
+    let T = setting_shown s in
     let n = length T in
     let low : 1 ≤ at.link = omega (arith, c.loop-link-test.true) in
-    let here : at.link ≤ n = omega (arith, at.auto.link, c.links-link.ensures, ap (λ s. length (net_of s).links) c.site.ensures, switched_length s) in
+    let here : at.link ≤ n = omega (arith, at.auto.link, c.links-link.ensures) in
     let z : at.link - 1 + 1 ≡ at.link = omega arith in
     elim c.if-has_closed.branch [
       | then-has_closed w ↦
