@@ -55,7 +55,7 @@ impl Switches {
         &self.site
     }
 
-    // The marks of the closed links.
+    // The marks of the closed links; past the links of the net a mark says nothing.
     pub fn closed(&self) -> Marks<60>
         ensures { result ≡ self.now.closed }
     {

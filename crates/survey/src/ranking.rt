@@ -5,7 +5,7 @@ ghost use Rattle.survey.specs.Ranks.{rank_table, in_range, distinct};
 mod methods;
 
 // Some of the numbers 1 to N in the order in which they were added, each once; and a table of their ranks, so that a rank is one look.
-// A rank is a byte in it, since a surveyed net is copied.
+// A rank takes two bytes in it, since a surveyed net is copied.
 // An array and a count: a surveyed net is copied, and the library's vector of fixed capacity is not.
 #[derive(Clone, Copy)]
 pub(crate) struct Ranking<const N: usize> {
